@@ -1,0 +1,67 @@
+-- Two's complement in one octet. omega does not read ℤ, so each law turns a fact of ℤ into one of ℕ. Assumes nothing.
+use Prim.Native.Nat.{ℕ, suc, _-_, _<_, _≤_}
+use mathlib.Core.Path.{_≡_, refl, sym, _∙_, ap, subst⁻¹}
+use mathlib.Core.Bool.{Bool, true, false, true≢false}
+use native.Mathlib.Omega.{arith}
+use mir.Syntax.{w8, w32}
+use mir.Val.{toZ, ofZ, Fits, SFits}
+use mir.Facts.{toZ-pos}
+use lib.IntN.{ℤ, pos, negsuc, natAbs, _+ℤ_}
+use lib.Signed.{ltZ, nonNeg}
+use lib.Dec.{T, ltb}
+use borrow.Author.Tests.{ltb-true, ltb-false, lt-ltb, le-ltb}
+use Rattle.octets.proofs.Refusals.{or-false}
+use Rattle.codec.specs.NineOctets.{badOffset, twosOf, signedOf}
+
+-- ---- there and back
+
+negative-low : (n : ℕ) → badOffset (negsuc n) ≡ false → n ≤ 126
+negative-low n h = ltb-false 126 n (or-false (ltb 126 n) false h .0)
+
+pub signed-twos : (z : ℤ) → badOffset z ≡ false → signedOf (twosOf z) ≡ z
+signed-twos (pos n) h = let l : n ≤ 127 = ltb-false 127 n h in simp (lt-ltb n 128 (omega arith))
+signed-twos (negsuc n) h =
+    let l = negative-low n h in
+    let e : 256 - suc (255 - n) ≡ n = omega arith in
+    simp (le-ltb (255 - n) 128 (omega arith), lt-ltb (255 - n) 256 (omega arith), e)
+
+pub twos-signed : (n : ℕ) → n < 256 → twosOf (signedOf n) ≡ n
+twos-signed n h = go (ltb n 128) refl
+  where
+    go : (t : Bool) → t ≡ ltb n 128 → twosOf (signedOf n) ≡ n
+    go true e = simp (← e)
+    go false e =
+        let l : 128 ≤ n = ltb-false n 128 (sym e) in
+        let k : 255 - (256 - suc n) ≡ n = omega arith in
+        simp (← e, lt-ltb n 256 h, k)
+
+-- ---- as code at 32 bits works it out
+
+pub twos-octet : (z : ℤ) → badOffset z ≡ false → twosOf z < 256
+twos-octet (pos n) h = omega (arith, ltb-false 127 n h)
+twos-octet (negsuc n) h = omega arith
+
+pub twos-below : (z : ℤ) → badOffset z ≡ false → ltZ z (pos 0) ≡ true → z +ℤ pos 256 ≡ pos (twosOf z)
+twos-below (pos n) h l = let none : n < 0 = ltb-true n 0 l in absurd (omega arith)
+twos-below (negsuc n) h l =
+    let k = negative-low n h in
+    let e : 256 - suc n ≡ 255 - n = omega arith in
+    simp (le-ltb 256 (suc n) (omega arith), e)
+
+pub twos-above : (z : ℤ) → ltZ z (pos 0) ≡ false → z ≡ pos (twosOf z)
+twos-above (pos n) l = refl
+twos-above (negsuc n) l = absurd (true≢false l)
+
+-- an i32 that is an octet's number: what a cast of it to a u8 asks and gives
+module _ {z : ℤ} {n : ℕ} (e : z ≡ pos n) (h : n < 256) where
+  stays : toZ w32 (ofZ w32 z) ≡ pos n
+  stays = ap (λ (y : ℤ). toZ w32 (ofZ w32 y)) e ∙ toZ-pos w32 (omega arith)
+
+  pub octet-fits : SFits w32 z
+  octet-fits = subst⁻¹ (SFits w32) e (record { sfits = omega arith })
+
+  pub octet-casts : T (nonNeg (toZ w32 (ofZ w32 z))) × Fits w8 (natAbs (toZ w32 (ofZ w32 z)))
+  octet-casts = subst⁻¹ (λ (y : ℤ). T (nonNeg y) × Fits w8 (natAbs y)) stays (tt, record { fits = h })
+
+  pub octet-gives : natAbs (toZ w32 (ofZ w32 z)) ≡ n
+  octet-gives = ap natAbs stays

@@ -1,0 +1,6 @@
+pub mod Cases
+pub mod Complement
+pub mod Tests
+pub mod RoundTrips
+pub mod Rates
+pub mod Figures

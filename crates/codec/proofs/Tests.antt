@@ -1,0 +1,64 @@
+-- What the tests of reading and writing tell of the fields. Assumes nothing.
+use Prim.Native.Nat.{ℕ, _≤_, _<_, _^_}
+use mathlib.Core.Path.{_≡_, refl}
+use mathlib.Core.Bool.{Bool, false, not, _||_}
+use mathlib.Core.List.{List, _∷_}
+use native.Mathlib.Omega.{arith}
+use borrow.Author.Tests.{eq-eqb, ne-eqb, lt-leb, le-ltb, leb-false, ltb-false, eqb-true, not-false}
+use lib.Dec.{eqb, leb, ltb}
+use lib.ListN.{length}
+use Rattle.octets.specs.Refusals.{firstOf, outside}
+use Rattle.octets.proofs.Refusals.{firstOf-cons, firstOf-zero, or-false, outside-false}
+use Rattle.codec.specs.declared.Block.{Block}
+use Rattle.codec.specs.NineOctets.{octet, bits, blockOf, fieldTests, readTests, writeTests}
+use Rattle.codec.specs.Steps.{Fitting}
+
+-- ---- the refusal by the tests that led to it
+
+module _ (s : List ℕ) where
+  pub read-1 : (length s ≡ 9 → ⊥) → 1 ≡ firstOf (readTests s)
+  unfolding readTests
+  read-1 h = simp (ne-eqb _ _ h)
+
+  pub read-2 : length s ≡ 9 → (bits 8 4 (octet 9 s) ≡ 2 → ⊥) → 2 ≡ firstOf (readTests s)
+  unfolding readTests
+  read-2 l h = simp (eq-eqb _ _ l, ne-eqb _ _ h)
+
+  pub read-fields : length s ≡ 9 → bits 8 4 (octet 9 s) ≡ 2 → firstOf (fieldTests (blockOf s)) ≡ firstOf (readTests s)
+  unfolding readTests
+  read-fields l h = simp (eq-eqb _ _ l, eq-eqb _ _ h)
+
+pub write-fields : (b : Block) → b .d < 2 ^ 27 → b .blg ≤ 31 → b .bt ≤ 3 → firstOf (fieldTests b) ≡ firstOf (writeTests b)
+unfolding writeTests
+write-fields b d blg bt = simp (lt-leb _ _ d, le-ltb _ _ blg, le-ltb _ _ bt)
+
+-- ---- what is not refused
+
+pub write-passed : (b : Block) → firstOf (writeTests b) ≡ 0 → Fitting b × (firstOf (fieldTests b) ≡ 0)
+unfolding writeTests fieldTests
+write-passed b h =
+    let nine : ℕ × Bool = (9, ltb 31 (b .blg) || ltb 3 (b .bt)) in
+    let p8 = firstOf-cons (8, leb (2 ^ 27) (b .d)) (nine ∷ fieldTests b) refl h in
+    let p9 = firstOf-cons nine (fieldTests b) (p8 .1) (p8 .2) in
+    let f = firstOf-zero (fieldTests b) refl (p9 .2) in
+    let blg-bt = or-false (ltb 31 (b .blg)) (ltb 3 (b .bt)) (p9 .0) in (
+      record {
+        d-low = leb-false (2 ^ 27) (b .d) (p8 .0);
+        blg-low = ltb-false 31 (b .blg) (blg-bt .0);
+        roff-low = outside-false 2 255 (b .roff) (f .1 .0) .1;
+        br-low = omega (arith, leb-false 14 (b .br) (or-false (eqb (b .br) 7) (leb 14 (b .br)) (f .0) .1));
+        bs-low = outside-false 2 255 (b .bs) (f .1 .1 .0) .1;
+        bo-in = f .1 .1 .1 .0;
+        bt-low = ltb-false 3 (b .bt) (blg-bt .1);
+      },
+      p9 .2,
+    )
+
+pub read-passed : (s : List ℕ) → firstOf (readTests s) ≡ 0
+    → (length s ≡ 9) × (bits 8 4 (octet 9 s) ≡ 2) × (firstOf (fieldTests (blockOf s)) ≡ 0)
+unfolding readTests fieldTests
+read-passed s h =
+    let two : ℕ × Bool = (2, not (eqb (bits 8 4 (octet 9 s)) 2)) in
+    let p1 = firstOf-cons (1, not (eqb (length s) 9)) (two ∷ fieldTests (blockOf s)) refl h in
+    let p2 = firstOf-cons two (fieldTests (blockOf s)) (p1 .1) (p1 .2) in
+    (eqb-true _ _ (not-false _ (p1 .0)), eqb-true _ _ (not-false _ (p2 .0)), p2 .2)

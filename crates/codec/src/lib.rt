@@ -1,0 +1,331 @@
+// The nine octets of a superframe block reservation, read and written; the rate lookup; the parameter check.
+ghost use mathlib.Core.Path.{_≡_};
+ghost use mathlib.Core.Bool.{false};
+ghost use mathlib.Core.List.{[], _∷_};
+ghost use lib.ListN.{length};
+ghost use Rattle.octets.specs.Lists.{every};
+ghost use Rattle.octets.specs.Refusals.{firstOf, outside};
+ghost use lib.Dec.{leb};
+ghost use Rattle.codec.specs.NineOctets.{bits, signedOf, twosOf, badOffset, badCode, fieldTests, writeTests, blockOf, octetsOf, reading, refusedReading, writing};
+ghost use Rattle.codec.specs.Rates.{badList, rateFound, refusedFound};
+ghost use Rattle.codec.specs.Parameters.{rowOf, parameterTests, defaultFound};
+ghost use Rattle.codec.specs.Claims.{Claims};
+ghost use Rattle.codec.specs.Steps.{Fitting};
+
+// ---- the nine octets
+
+// The fields of a reservation.
+pub struct Block {
+    pub d: u32,
+    pub blg: u32,
+    pub roff: u32,
+    pub br: u32,
+    pub bs: u32,
+    pub bo: i32,
+    pub bt: u32,
+}
+
+// What reading gives: the refusal, 0 for none, and the fields, all 0 where it is refused.
+pub struct Reading {
+    pub refusal: u32,
+    pub block: Block,
+}
+
+// What writing gives: the refusal, 0 for none, and the nine octets, all 0 where it is refused.
+pub struct Writing {
+    pub refusal: u32,
+    pub octets: [u8; 9],
+}
+
+// An octet read as two's complement.
+fn signed(x: u8) -> i32
+    ensures { λ r. ⌜ r ≡ signedOf x ⌝ }
+{
+    if x < 128 { x as i32 } else { (x as i32) - 256 }
+}
+
+// The octet that says bo in two's complement.
+fn twos(bo: i32) -> u8
+    requires { ⌜ badOffset bo ≡ false ⌝ }
+    ensures { λ r. ⌜ r ≡ twosOf bo ⌝ }
+{
+    if bo < 0 { (bo + 256) as u8 } else { bo as u8 }
+}
+
+fn bad_code(code: u32) -> bool
+    ensures { λ r. ⌜ r ≡ badCode code ⌝ }
+{
+    (code == 7) | (14 <= code)
+}
+
+// The refusal that br, roff, bs and bo call for, 0 for none.
+fn judge_fields(b: Block) -> u32
+    ensures { λ r. ⌜ r ≡ firstOf (fieldTests b) ⌝ }
+{
+    let br = b.br;
+    let roff = b.roff;
+    let bs = b.bs;
+    let bo = b.bo;
+    if bad_code(br) {
+        return 3;
+    }
+    if (roff < 2) | (255 < roff) {
+        return 4;
+    }
+    if (bs < 2) | (255 < bs) {
+        return 5;
+    }
+    if (bo < -127) | (127 < bo) {
+        return 6;
+    }
+    0
+}
+
+// d bits 27-25, which octet 4 holds in its bits 3-1.
+fn high_bits(octet4: u8) -> u32
+    ensures { λ r. ⌜ r ≡ bits 3 1 octet4 ⌝ }
+{
+    (octet4 as u32) % 8
+}
+
+// The extended reservation ID, which octet 9 holds in its bits 8-4.
+fn extended_id(octet9: u8) -> u8
+    ensures { λ r. ⌜ r ≡ bits 8 4 octet9 ⌝ }
+{
+    octet9 / 8
+}
+
+// The fields, out of the octets one by one.
+fn fields(o1: u8, o2: u8, o3: u8, o4: u8, o5: u8, o6: u8, o7: u8, o8: u8, o9: u8) -> Block
+    ensures { λ r. ⌜ r ≡ blockOf (o1 ∷ o2 ∷ o3 ∷ o4 ∷ o5 ∷ o6 ∷ o7 ∷ o8 ∷ o9 ∷ []) ⌝ }
+{
+    Block {
+        d: high_bits(o4) * 16777216 + (o1 as u32) * 65536 + (o2 as u32) * 256 + (o3 as u32),
+        blg: (o4 as u32) / 8,
+        roff: o5 as u32,
+        br: (o6 as u32) % 16,
+        bs: o7 as u32,
+        bo: signed(o8),
+        bt: (o9 as u32) % 4,
+    }
+}
+
+// The same, out of a slice of nine.
+fn load(octets: &[u8]) -> Block
+    requires { ⌜ length (now octets) ≡ 9 ⌝ }
+    ensures { λ r. ⌜ r ≡ blockOf (now (octets .entry)) ⌝ }
+{
+    fields(
+        octets[0],
+        octets[1],
+        octets[2],
+        octets[3],
+        octets[4],
+        octets[5],
+        octets[6],
+        octets[7],
+        octets[8],
+    )
+}
+
+fn refused_reading(n: u32) -> Reading
+    ensures { λ r. ⌜ r ≡ refusedReading n ⌝ }
+{
+    Reading {
+        refusal: n,
+        block: Block {
+            d: 0,
+            blg: 0,
+            roff: 0,
+            br: 0,
+            bs: 0,
+            bo: 0,
+            bt: 0,
+        },
+    }
+}
+
+// Reads a reservation. Refused, in this order: 1, 2, 3, 4, 5, 6.
+pub fn read(octets: &[u8]) -> Reading
+    ensures { λ r. ⌜ r ≡ reading (now (octets .entry)) ⌝ }
+{
+    if octets.len() != 9 {
+        return refused_reading(1);
+    }
+    if extended_id(octets[8]) != 2 {
+        return refused_reading(2);
+    }
+    let b = load(octets);
+    let n = judge_fields(b);
+    if n != 0 {
+        return refused_reading(n);
+    }
+    Reading {
+        refusal: 0,
+        block: b,
+    }
+}
+
+// The refusal that a block calls for, 0 for none.
+fn judge_block(b: Block) -> u32
+    ensures { λ r. ⌜ r ≡ firstOf (writeTests b) ⌝ }
+{
+    let d = b.d;
+    let blg = b.blg;
+    let bt = b.bt;
+    if 134217728 <= d {
+        return 8;
+    }
+    if (31 < blg) | (3 < bt) {
+        return 9;
+    }
+    judge_fields(b)
+}
+
+// The octets that hold a block whose fields fit.
+fn store(b: Block) -> [u8; 9]
+    requires { ⌜ Fitting b ⌝ }
+    ensures { λ r. ⌜ r ≡ octetsOf b ⌝ }
+{
+    [
+        (b.d / 65536 % 256) as u8,
+        (b.d / 256 % 256) as u8,
+        (b.d % 256) as u8,
+        (b.blg * 8 + b.d / 16777216 % 8) as u8,
+        b.roff as u8,
+        b.br as u8,
+        b.bs as u8,
+        twos(b.bo),
+        (16 + b.bt) as u8,
+    ]
+}
+
+// Writes a reservation. Refused, in this order: 8, 9, 3, 4, 5, 6.
+pub fn write(b: Block) -> Writing
+    ensures { λ r. ⌜ r ≡ writing b ⌝ }
+{
+    let n = judge_block(b);
+    if n != 0 {
+        return Writing {
+            refusal: n,
+            octets: [0; 9],
+        };
+    }
+    let o = store(b);
+    Writing {
+        refusal: 0,
+        octets: o,
+    }
+}
+
+// ---- the rates
+
+// What a lookup gives: the refusal, 0 for none, and the number found, 0 where it is refused.
+pub struct Found {
+    pub refusal: u32,
+    pub number: u32,
+}
+
+fn refused_found(n: u32) -> Found
+    ensures { λ r. ⌜ r ≡ refusedFound n ⌝ }
+{
+    Found {
+        refusal: n,
+        number: 0,
+    }
+}
+
+// Whether no entry is above 60.
+fn none_above_60(rates: &[u8]) -> bool
+    ensures { λ r. ⌜ r ≡ every (λ x. leb x 60) (now (rates .entry)) ⌝ }
+{
+    let mut so_far = true;
+    let mut i = 0;
+    while i < rates.len() {
+        so_far = so_far & (rates[i] <= 60);
+        i += 1;
+    }
+    so_far
+}
+
+fn bad_list(rates: &[u8]) -> bool
+    ensures { λ r. ⌜ r ≡ badList (now (rates .entry)) ⌝ }
+{
+    if rates.len() != 16 {
+        return true;
+    }
+    let low = none_above_60(rates);
+    !low | (rates[7] != 0) | (rates[14] != 0) | (rates[15] != 0)
+}
+
+// The rate that a code stands for in a list of sixteen. Refused, in this order: 7, 3.
+pub fn rate(rates: &[u8], code: u32) -> Found
+    ensures { λ r. ⌜ r ≡ rateFound (now (rates .entry)) code ⌝ }
+{
+    if bad_list(rates) {
+        return refused_found(7);
+    }
+    if bad_code(code) {
+        return refused_found(3);
+    }
+    let r = rates[code as usize];
+    if r == 0 {
+        return refused_found(3);
+    }
+    Found {
+        refusal: 0,
+        number: r as u32,
+    }
+}
+
+// ---- the parameters
+
+// Minimum, maximum, default and step of 1 M1, 2 M2inc, 3 M2limit (004, Table 1-3).
+const PARAMETERS: [[u32; 4]; 3] = [[60, 15360, 4500, 60], [1, 256, 2, 1], [1, 65536, 160, 1]];
+
+// The row of a parameter.
+fn row(number: u32) -> [u32; 4]
+    requires { ⌜ outside 1 3 number ≡ false ⌝ }
+    ensures { λ r. ⌜ r ≡ rowOf number ⌝ }
+{
+    PARAMETERS[(number - 1) as usize]
+}
+
+// The refusal of a figure for a parameter, 0 where it fits. Refused, in this order: 22, 10.
+pub fn parameter(number: u32, figure: u32) -> u32
+    ensures { λ r. ⌜ r ≡ firstOf (parameterTests number figure) ⌝ }
+{
+    if (number < 1) | (3 < number) {
+        return 22;
+    }
+    let r = row(number);
+    let low = r[0];
+    let high = r[1];
+    let step = r[3];
+    if (figure < low) | (high < figure) {
+        return 10;
+    }
+    if (figure - low) % step != 0 {
+        return 10;
+    }
+    0
+}
+
+// The default of a parameter. Refused: 22.
+pub fn default_figure(number: u32) -> Found
+    ensures { λ r. ⌜ r ≡ defaultFound number ⌝ }
+{
+    if (number < 1) | (3 < number) {
+        return refused_found(22);
+    }
+    let r = row(number);
+    Found {
+        refusal: 0,
+        number: r[2],
+    }
+}
+
+// What this crate claims over its promises.
+pub fn claims()
+    ensures { λ _. ⌜ Claims ⌝ }
+{}

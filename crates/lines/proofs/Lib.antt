@@ -1,0 +1,7 @@
+pub mod Wrote
+pub mod Decimal
+pub mod Signed
+pub mod Lines
+pub mod Readings
+pub mod Pieces
+pub mod Claimed

@@ -1,0 +1,17 @@
+-- What is claimed of the listing. Proved in proofs/Claimed.antt.
+use Prim.Native.Nat.{ℕ, _%_}
+use mathlib.Core.Path.{_≡_}
+use mathlib.Core.List.{List, [], _∷_, _++_}
+use lib.ListN.{length}
+use Rattle.lines.specs.Text.{text}
+use Rattle.lines.specs.Listing.{header, line, listed, listing}
+
+pub record Claims : Type 0 where
+  pub sample :
+      listing (0x00 ∷ 0x00 ∷ 0x01 ∷ 0x20 ∷ 0x02 ∷ 0x03 ∷ 0x05 ∷ 0xFE ∷ 0x12 ∷ [])
+      ≡ text "d blg roff br bs bo bt\n1 4 2 3 5 -2 2\n"
+  pub empty : listing [] ≡ header
+  -- a group that does not have nine octets, so a short last one
+  pub short : (g : List ℕ) → (length g ≡ 9 → ⊥) → line g ≡ text "refused 1\n"
+  -- it does not matter in which pieces of whole groups an input comes
+  pub pieces : (s t : List ℕ) → length s % 9 ≡ 0 → listed (s ++ t) ≡ listed s ++ listed t

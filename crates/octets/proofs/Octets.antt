@@ -1,0 +1,81 @@
+-- Laws of little-endian numbers, over the width. Assumes nothing.
+use Prim.Native.Nat.{ℕ, zero, suc, _+_, _*_, _/_, _%_, _^_, _<_, _≤_}
+use mathlib.Core.Path.{_≡_, refl, ap, _∙_}
+use mathlib.Core.List.{List, [], _∷_}
+use native.Mathlib.Nat.{pow-suc, add-assoc}
+use native.Mathlib.Numerals.{add-one}
+use native.Mathlib.Omega.{arith}
+use lib.Dec.{lit<}
+use lib.ListN.{length, getD, take, drop}
+use lib.Seq.{drop-cons, getD-drop}
+use Rattle.octets.specs.Octets.{Bytes, little, number, numberAt}
+
+-- ---- Bytes
+
+pub bytes-take : (w : ℕ) (bs : List ℕ) → Bytes bs → Bytes (take w bs)
+bytes-take zero bs h i = lit< tt
+bytes-take (suc w) [] h i = lit< tt
+bytes-take (suc w) (b ∷ bs) h zero = h 0
+bytes-take (suc w) (b ∷ bs) h (suc i) = bytes-take w bs (λ j. h (suc j)) i
+
+pub bytes-drop : (w : ℕ) (bs : List ℕ) → Bytes bs → Bytes (drop w bs)
+bytes-drop w bs h i = rw getD-drop (h (w + i))
+
+-- ---- little and number undo each other
+
+pub length-little : (w n : ℕ) → length (little w n) ≡ w
+unfolding little
+length-little zero n = refl
+length-little (suc w) n = ap suc (length-little w (n / 256))
+
+pub bytes-little : (w n : ℕ) → Bytes (little w n)
+unfolding little
+bytes-little zero n i = lit< tt
+bytes-little (suc w) n zero = omega arith
+bytes-little (suc w) n (suc i) = bytes-little w (n / 256) i
+
+pub number-bound : (bs : List ℕ) → Bytes bs → number bs < 256 ^ length bs
+unfolding number
+number-bound [] h = lit< tt
+number-bound (b ∷ bs) h = omega (arith, h 0, number-bound bs (λ i. h (suc i)), pow-suc 256 (length bs))
+
+pub number-little : (w n : ℕ) → n < 256 ^ w → number (little w n) ≡ n
+unfolding little number
+number-little zero n h = omega arith
+number-little (suc w) n h = rw (number-little w (n / 256) (omega (arith, pow-suc 256 w))) (omega arith)
+
+pub little-number : (bs : List ℕ) → Bytes bs → little (length bs) (number bs) ≡ bs
+unfolding little number
+little-number [] h = refl
+little-number (b ∷ bs) h =
+    let b< : b < 256 = h 0 in
+    let e : (b + 256 * number bs) / 256 ≡ number bs = omega arith in
+    let f : (b + 256 * number bs) % 256 ≡ b = omega arith in
+    rw (e, f, little-number bs (λ i. h (suc i)))
+
+-- ---- numberAt, octet by octet
+
+pub numberAt-zero : (m : List ℕ) (at : ℕ) → numberAt 0 m at ≡ 0
+unfolding numberAt number
+numberAt-zero m at = refl
+
+pub numberAt-suc : (w : ℕ) (m : List ℕ) (at : ℕ) → at < length m → numberAt (suc w) m at ≡ getD m at 0 + 256 * numberAt w m (at + 1)
+unfolding numberAt number
+numberAt-suc w m at h = rw (add-one, drop-cons m at 0)
+
+pub numberAt-one : (m : List ℕ) (at : ℕ) → at + 1 ≤ length m → numberAt 1 m at ≡ getD m at 0
+numberAt-one m at h = rw (numberAt-suc 0 m at (omega arith), numberAt-zero) (omega arith)
+
+pub numberAt-four : (m : List ℕ) (at : ℕ) → at + 4 ≤ length m
+    → numberAt 4 m at ≡ number (getD m at 0 ∷ getD m (at + 1) 0 ∷ getD m (at + 2) 0 ∷ getD m (at + 3) 0 ∷ [])
+unfolding number
+numberAt-four m at h =
+    rw (
+      numberAt-suc 3 m at (omega arith),
+      numberAt-suc 2 m (at + 1) (omega arith),
+      numberAt-suc 1 m (at + 1 + 1) (omega arith),
+      numberAt-suc 0 m (at + 1 + 1 + 1) (omega arith),
+      numberAt-zero,
+      add-assoc at 1 1,
+      add-assoc at 2 1,
+    )

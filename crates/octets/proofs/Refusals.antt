@@ -1,0 +1,96 @@
+-- Laws of `firstOf` and `answer`: which refusal a call gets, and what it gives by it; and what a test tells that does not hold. Assumes nothing.
+use Prim.Native.Nat.{ℕ, zero, suc, _≤_}
+use mathlib.Core.Path.{_≡_, refl, sym, _∙_}
+use mathlib.Core.Bool.{Bool, true, false, cond, not, _&&_, _||_, true≢false, false≢true}
+use mathlib.Core.List.{List, [], _∷_, _++_}
+use lib.Dec.{ltb, eqb, eqb·suc-zero}
+use borrow.Author.Tests.{eq-eqb, ne-eqb, ltb-false}
+use Rattle.octets.specs.Lists.{every}
+use Rattle.octets.specs.Refusals.{firstOf, answer, outside}
+
+-- ---- firstOf
+
+-- every number of the list is a refusal's: none is 0
+abbrev pub Numbered : List (ℕ × Bool) → Type 0
+Numbered xs = every (λ x. not (eqb (x .0) 0)) xs ≡ true
+
+-- a call that is not refused has passed the first test, and is not refused by the others
+module _ (x : ℕ × Bool) (xs : List (ℕ × Bool)) where
+  pub firstOf-cons : Numbered (x ∷ xs) → firstOf (x ∷ xs) ≡ 0 → (x .1 ≡ false) × Numbered xs × (firstOf xs ≡ 0)
+  firstOf-cons n h = go (x .1) (eqb (x .0) 0) refl n h
+    where
+      go : (b z : Bool) → eqb (x .0) 0 ≡ z → (not z && every (λ y. not (eqb (y .0) 0)) xs) ≡ true → cond b (x .0) (firstOf xs) ≡ 0
+          → (b ≡ false) × Numbered xs × (firstOf xs ≡ 0)
+      go b true e n h = absurd (false≢true n)
+      go true false e n h = absurd (true≢false (sym (eq-eqb (x .0) 0 h) ∙ e))
+      go false false e n h = (refl, n, h)
+
+-- none of the tests holds
+abbrev pub Passed : List (ℕ × Bool) → Type 0
+Passed [] = Unit {0}
+Passed (x ∷ xs) = (x .1 ≡ false) × Passed xs
+
+-- and so has passed every test
+pub firstOf-zero : (xs : List (ℕ × Bool)) → Numbered xs → firstOf xs ≡ 0 → Passed xs
+firstOf-zero [] n h = tt
+firstOf-zero (x ∷ xs) n h =
+    let p = firstOf-cons x xs n h in
+    (p .0, firstOf-zero xs (p .1) (p .2))
+
+-- the tests that follow count where none of the first holds
+pub firstOf-append : (xs ys : List (ℕ × Bool)) → Numbered xs → firstOf xs ≡ 0 → firstOf (xs ++ ys) ≡ firstOf ys
+firstOf-append [] ys n h = refl
+firstOf-append (x ∷ xs) ys n h =
+    let p = firstOf-cons x xs n h in
+    rw (p .0) (firstOf-append xs ys (p .1) (p .2))
+
+-- and do not count where one of them does
+pub firstOf-stop : (xs ys : List (ℕ × Bool)) → (firstOf xs ≡ 0 → ⊥) → firstOf (xs ++ ys) ≡ firstOf xs
+firstOf-stop [] ys h = absurd (h refl)
+firstOf-stop (x ∷ xs) ys h = go (x .1) h (firstOf-stop xs ys)
+  where
+    go : (b : Bool) → (cond b (x .0) (firstOf xs) ≡ 0 → ⊥) → ((firstOf xs ≡ 0 → ⊥) → firstOf (xs ++ ys) ≡ firstOf xs)
+        → cond b (x .0) (firstOf (xs ++ ys)) ≡ cond b (x .0) (firstOf xs)
+    go true h rest = refl
+    go false h rest = rest h
+
+-- a last test that was not given may as well be another one that fails with it
+pub firstOf-last : (n : ℕ) (xs : List (ℕ × Bool)) (a b : Bool) → (firstOf (xs ++ ((n, a) ∷ [])) ≡ n → ⊥) → (a ≡ false → b ≡ false)
+    → firstOf (xs ++ ((n, b) ∷ [])) ≡ firstOf (xs ++ ((n, a) ∷ []))
+firstOf-last n [] true b h k = absurd (h refl)
+firstOf-last n [] false b h k = rw (k refl)
+firstOf-last n (x ∷ xs) a b h k = go (x .1) h (λ j. firstOf-last n xs a b j k)
+  where
+    go : (c : Bool) → (cond c (x .0) (firstOf (xs ++ ((n, a) ∷ []))) ≡ n → ⊥)
+        → ((firstOf (xs ++ ((n, a) ∷ [])) ≡ n → ⊥) → firstOf (xs ++ ((n, b) ∷ [])) ≡ firstOf (xs ++ ((n, a) ∷ [])))
+        → cond c (x .0) (firstOf (xs ++ ((n, b) ∷ []))) ≡ cond c (x .0) (firstOf (xs ++ ((n, a) ∷ [])))
+    go true h rest = refl
+    go false h rest = rest h
+
+-- ---- answer
+
+module _ {A : Type 0} (accepted : A) (refused : ℕ → A) where
+  pub answer-refused : {n m : ℕ} → n ≡ m → (n ≡ 0 → ⊥) → refused n ≡ answer m accepted refused
+  unfolding answer
+  answer-refused {n} e h = simp (← e, ne-eqb n 0 h)
+
+  pub answer-accepted : {m : ℕ} → 0 ≡ m → accepted ≡ answer m accepted refused
+  unfolding answer
+  answer-accepted e = simp (← e)
+
+  -- an answer that says 0 was accepted
+  pub answer-zero : (said : A → ℕ) → ((n : ℕ) → said (refused n) ≡ n) → (n : ℕ) → said (answer n accepted refused) ≡ 0 → 0 ≡ n
+  unfolding answer
+  answer-zero said r zero h = refl
+  answer-zero said r (suc n) h = sym (sym (r (suc n)) ∙ (simp (eqb·suc-zero n) at h))
+
+-- ---- tests that do not hold
+
+pub or-false : (a b : Bool) → (a || b) ≡ false → (a ≡ false) × (b ≡ false)
+or-false true b h = absurd (true≢false h)
+or-false false b h = (refl, h)
+
+pub outside-false : (lo hi n : ℕ) → outside lo hi n ≡ false → (lo ≤ n) × (n ≤ hi)
+outside-false lo hi n h =
+    let p = or-false (ltb n lo) (ltb hi n) h in
+    (ltb-false n lo (p .0), ltb-false hi n (p .1))

@@ -1,0 +1,35 @@
+-- A loop that writes zeros from a place on: the octets half-way, and `zeroFrom` at its end. Assumes nothing.
+use Prim.Native.Nat.{ℕ, zero, suc, _+_, _-_, _<_, _≤_}
+use mathlib.Core.Path.{_≡_, refl, ap, _∙_, sym}
+use mathlib.Core.List.{List, [], _∷_, _++_, append-assoc, append-nil}
+use native.Mathlib.Numerals.{add-one}
+use native.Mathlib.Omega.{arith}
+use lib.ListN.{length, getD, take, drop, set, replicate, length-append, length-replicate, drop-of-length-le, take-append-drop}
+use lib.Seq.{drop-cons, set-at, length-take-le}
+use Rattle.octets.specs.Octets.{zeroFrom}
+
+-- zeros from a place to i, and the rest as it was
+abbrev pub cleared : ℕ → ℕ → List ℕ → List ℕ
+cleared at i m = take at m ++ (replicate (i - at) 0 ++ drop i m)
+
+replicate-cons : (n : ℕ) (d : List ℕ) → replicate n 0 ++ (0 ∷ d) ≡ 0 ∷ (replicate n 0 ++ d)
+replicate-cons zero d = refl
+replicate-cons (suc n) d = ap (λ l. 0 ∷ l) (replicate-cons n d)
+
+pub cleared-none : (at : ℕ) (m : List ℕ) → m ≡ cleared at at m
+cleared-none at m =
+    let e : at - at ≡ 0 = omega arith in
+    rw e (sym (take-append-drop at m))
+
+pub cleared-next : (at i : ℕ) (m w : List ℕ) → at ≤ i → i < length m → w ≡ cleared at i m → set w i 0 ≡ cleared at (i + 1) m
+cleared-next at i m w h l e =
+    let p = take at m ++ replicate (i - at) 0 in
+    let k : length p ≡ i = rw (length-append, length-replicate, length-take-le at m (omega arith)) (omega arith) in
+    let x : w ≡ p ++ (getD m i 0 ∷ drop (suc i) m) = e ∙ rw (drop-cons m i 0 l, append-assoc) in
+    let s : i + 1 - at ≡ suc (i - at) = omega arith in
+    rw (x, set-at p (getD m i 0) (drop (suc i) m) 0 i k, append-assoc, replicate-cons, s, add-one)
+
+pub cleared-all : (at i : ℕ) (m w : List ℕ) → length m ≤ i → i - at ≤ length m - at → w ≡ cleared at i m → w ≡ zeroFrom at m
+cleared-all at i m w h k e =
+    let s : i - at ≡ length m - at = omega arith in
+    e ∙ rw (drop-of-length-le m {i = i} h, append-nil, s)

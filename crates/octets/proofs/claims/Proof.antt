@@ -1,0 +1,17 @@
+-- `octets::claims` promises what the laws prove. Assumes nothing.
+use Rattle.octets.proofs.Octets.{number-little, little-number, length-little, bytes-little, number-bound}
+use Rattle.octets.proofs.claims.Statement.{statement}
+use Rattle.octets.proofs.claims.Tie as tie
+
+returns : tie.Need-returns
+returns c =
+    record {
+      written-is-read = number-little;
+      read-is-written = little-number;
+      written-length = length-little;
+      written-octets = bytes-little;
+      read-bound = number-bound;
+    }
+
+pub claims-spec : {M : Type 1} → statement M
+claims-spec = tie.close (tie.spec returns)

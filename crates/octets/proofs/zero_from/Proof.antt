@@ -1,0 +1,49 @@
+-- `octets::zero_from` meets its contract: what was seen so far, and what is left, say the same as the whole. Assumes nothing.
+use Prim.Native.Nat.{ℕ, _-_}
+use mathlib.Core.Path.{_≡_, refl, _∙_, sym}
+use mathlib.Core.Bool.{Bool, _&&_}
+use native.Mathlib.Omega.{arith}
+use borrow.Author.Needs.{needs}
+use denote.Ref.{now}
+use lib.Dec.{eqb}
+use lib.ListN.{length, drop}
+use Rattle.octets.specs.Octets.{zeros}
+use Rattle.octets.proofs.Lists.{every-next, every-end}
+use Rattle.octets.proofs.zero_from.Statement.{statement}
+use Rattle.octets.proofs.zero_from.Tie as tie
+
+abbrev zero : ℕ → Bool
+zero b = eqb b 0
+
+abbrev Inv-loop : tie.InvT-loop
+Inv-loop mem at so-far₀ i₀ so-far i = zeros (drop at mem) ≡ (so-far && zeros (drop i mem))
+
+abbrev μ-loop : tie.MeasureT-loop
+μ-loop mem at so-far₀ i₀ so-far i = length mem - i
+
+loop-holds : tie.Need-loop-holds Inv-loop μ-loop
+loop-holds c = refl
+
+shared-slice-read-so-far : tie.Need-shared-slice-read-so-far Inv-loop μ-loop
+shared-slice-read-so-far c = search needs
+
+add-i : tie.Need-add-i Inv-loop μ-loop
+add-i c = omega arith
+
+loop-less : tie.Need-loop-less Inv-loop μ-loop
+loop-less c = omega arith
+
+loop-again : tie.Need-loop-again Inv-loop μ-loop
+loop-again c =
+    let h = c .before .before in
+    h .loop .inv ∙ every-next zero (now (h .before .args .mem)) (h .loop .i) (h .loop .so-far) 0 (c .before .loop-test .taken)
+
+returns : tie.Need-returns Inv-loop μ-loop
+returns c =
+    let h = c .before in
+    every-end zero (now (h .before .args .mem)) (h .loop .i) (h .loop .so-far) (c .loop-test .left) ∙ sym (h .loop .inv)
+
+pub zero-from-spec : {M : Type 1} → statement M
+zero-from-spec =
+    tie.close
+    (tie.spec Inv-loop μ-loop loop-holds shared-slice-read-so-far add-i loop-less loop-again returns)

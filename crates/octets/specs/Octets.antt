@@ -1,0 +1,33 @@
+-- Little-endian numbers, over the width, and octets that are 0.
+use Prim.Native.Nat.{ℕ, zero, suc, _+_, _-_, _*_, _/_, _%_, _<_}
+use mathlib.Core.Bool.{Bool}
+use mathlib.Core.List.{List, [], _∷_, _++_}
+use lib.Dec.{eqb}
+use lib.ListN.{length, getD, take, drop, replicate}
+use Rattle.octets.specs.Lists.{every}
+
+-- every element is an octet: what the language says of each slice of octets
+abbrev pub Bytes : List ℕ → Type 0
+Bytes bs = (i : ℕ) → getD bs i 0 < 256
+
+-- the lowest w octets of n, the lowest first
+unfoldable pub little : ℕ → ℕ → List ℕ
+little zero n = []
+little (suc w) n = n % 256 ∷ little w (n / 256)
+
+-- the number that octets say, the lowest first
+unfoldable pub number : List ℕ → ℕ
+number [] = 0
+number (b ∷ bs) = b + 256 * number bs
+
+-- the number in the w octets from a place on
+unfoldable pub numberAt : ℕ → List ℕ → ℕ → ℕ
+numberAt w m at = number (take w (drop at m))
+
+-- every octet is 0
+abbrev pub zeros : List ℕ → Bool
+zeros m = every (λ b. eqb b 0) m
+
+-- the octets from a place on made 0
+abbrev pub zeroFrom : ℕ → List ℕ → List ℕ
+zeroFrom at m = take at m ++ replicate (length m - at) 0

@@ -1,0 +1,64 @@
+// Little-endian numbers in octets, and octets that are 0.
+ghost use mathlib.Core.Path.{_≡_};
+ghost use Prim.Native.Nat.{_<_};
+ghost use mathlib.Core.List.{_∷_, []};
+ghost use lib.ListN.{drop};
+ghost use Rattle.octets.specs.Octets.{little, number, zeros, zeroFrom};
+ghost use Rattle.octets.specs.Claims.{Claims};
+
+fn wide(x: u8) -> u32
+    ensures { λ r. ⌜ (r ≡ x) × (r < 256) ⌝ }
+{
+    x as u32
+}
+
+// The number that four octets say, the lowest first.
+pub fn join(a: u8, b: u8, c: u8, d: u8) -> u32
+    ensures { λ r. ⌜ r ≡ number (a ∷ b ∷ c ∷ d ∷ []) ⌝ }
+{
+    wide(a) + wide(b) * 256 + wide(c) * 65536 + wide(d) * 16777216
+}
+
+// The four octets of a number, the lowest first.
+pub fn split(x: u32) -> [u8; 4]
+    ensures { λ r. ⌜ r ≡ little 4 x ⌝ }
+{
+    let y = x / 256;
+    let z = y / 256;
+    let v = z / 256;
+    [
+        (x % 256) as u8,
+        (y % 256) as u8,
+        (z % 256) as u8,
+        (v % 256) as u8,
+    ]
+}
+
+// Whether every octet from `at` on is 0. It looks at all of them: without an early way out the loop is vectorised.
+pub fn zero_from(mem: &[u8], at: usize) -> bool
+    ensures { λ r. ⌜ r ≡ zeros (drop at (now (mem .entry))) ⌝ }
+{
+    let mut so_far = true;
+    let mut i = at;
+    while i < mem.len() {
+        so_far = so_far & (mem[i] == 0);
+        i += 1;
+    }
+    so_far
+}
+
+// Makes every octet from `at` on 0.
+pub fn clear_from(mem: &mut [u8], at: usize)
+    ensures { λ _. ⌜ now (mem .exit) ≡ zeroFrom at (now (mem .entry)) ⌝ }
+{
+    let mut i = at;
+    while i < mem.len() {
+        mem[i] = 0;
+        i += 1;
+    }
+}
+
+// What this crate claims over its promises.
+pub fn claims()
+    ensures { λ _. ⌜ Claims ⌝ }
+{}

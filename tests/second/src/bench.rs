@@ -1,0 +1,102 @@
+//! The listing against its peer. Times, not checks.
+
+use std::fs::OpenOptions;
+use std::path::Path;
+use std::process::{Command, ExitCode, Stdio};
+use std::time::Instant;
+
+use crate::draw::Draw;
+use crate::groups;
+use crate::temp::Temp;
+
+const GROUPS: usize = 1_000_000;
+const RUNS: usize = 11;
+
+/// Mostly accepted groups; one in ten is refused, for any of the reasons.
+fn input() -> Vec<u8> {
+    let mut draw = Draw::from_seed(8);
+    groups::many(GROUPS, || {
+        let mut group = groups::accepted(&mut draw);
+        if draw.below(10) == 0 {
+            let refusal = 2 + draw.below(5);
+            groups::spoil(&mut group, refusal, &mut draw);
+        }
+        group
+    })
+}
+
+/// Milliseconds from the program's start to its end.
+fn time(program: &Path, source: &Temp, output: Stdio) -> Result<f64, String> {
+    let mut command = Command::new(program);
+    command.stdin(source.source()?).stdout(output);
+    let start = Instant::now();
+    let status = command.status();
+    let elapsed = start.elapsed().as_secs_f64() * 1e3;
+    match status {
+        Ok(status) if status.success() => Ok(elapsed),
+        Ok(status) => Err(format!("{}: {status}", program.display())),
+        Err(error) => Err(format!("{}: {error}", program.display())),
+    }
+}
+
+fn median(mut times: Vec<f64>) -> f64 {
+    times.sort_by(f64::total_cmp);
+    times[times.len() / 2]
+}
+
+/// One row of the table: both programs by turns, so that a busy spell of the
+/// machine meets both.
+fn row(
+    name: &str,
+    programs: [&Path; 2],
+    source: &Temp,
+    output: impl Fn(usize) -> Result<Stdio, String>,
+) -> Result<(), String> {
+    let mut times = [Vec::new(), Vec::new()];
+    for run in 0..=RUNS {
+        for (which, program) in programs.into_iter().enumerate() {
+            let elapsed = time(program, source, output(which)?)?;
+            // The first run warms up.
+            if run > 0 {
+                times[which].push(elapsed);
+            }
+        }
+    }
+    let [listing, peer] = times.map(median);
+    let ratio = listing / peer;
+    println!("{name:<10} {listing:>9.2} {peer:>9.2} {ratio:>16.2}");
+    Ok(())
+}
+
+fn table(listing: &Path, peer: &Path) -> Result<(), String> {
+    let source = Temp::holding("bench-groups", &input())?;
+    let sinks = [
+        Temp::holding("bench-listing", &[])?,
+        Temp::holding("bench-peer", &[])?,
+    ];
+    println!("{GROUPS} groups, median of {RUNS} runs each, in ms");
+    println!(
+        "{:<10} {:>9} {:>9} {:>16}",
+        "output", "listing", "peer", "listing / peer"
+    );
+    row("file", [listing, peer], &source, |which| {
+        Ok(sinks[which].sink()?.into())
+    })?;
+    if sinks[0].content()? != sinks[1].content()? {
+        return Err("the outputs differ".to_string());
+    }
+    row("/dev/null", [listing, peer], &source, |_| {
+        let null = OpenOptions::new().write(true).open("/dev/null");
+        Ok(null.map_err(|error| format!("/dev/null: {error}"))?.into())
+    })
+}
+
+pub fn listing(listing: &Path, peer: &Path) -> ExitCode {
+    match table(listing, peer) {
+        Ok(()) => ExitCode::SUCCESS,
+        Err(error) => {
+            eprintln!("second: {error}");
+            ExitCode::FAILURE
+        }
+    }
+}

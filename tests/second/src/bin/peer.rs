@@ -1,0 +1,224 @@
+//! The peer for the benchmark: the listing as one would write it by hand for
+//! speed. It meets the same checks as the listing and uses the same words.
+
+use std::fs::File;
+use std::io::{self, ErrorKind, Read, Write};
+use std::os::fd::AsFd;
+use std::process::ExitCode;
+
+const GROUP: usize = 9;
+const READ: usize = 32768;
+
+/// The most octets at hand: one read and those kept from the read before.
+const HELD: usize = GROUP - 1 + READ;
+
+const HEADER: &[u8] = b"d blg roff br bs bo bt\n";
+
+/// No line is longer than "134217727 31 255 13 255 -127 3\n".
+const LONGEST_LINE: usize = 31;
+
+/// What a line could touch if every piece were seven octets long, which is all
+/// that the compiler knows of them.
+const LINE_ROOM: usize = 64;
+
+/// Room for the lines of all octets at hand.
+const ROOM: usize = HELD / GROUP * LONGEST_LINE + LINE_ROOM;
+
+/// Text of at most seven octets, for one store of eight: the text first, its
+/// length in the last octet.
+type Piece = u64;
+
+const fn piece(number: i32, after: &[u8]) -> Piece {
+    let mut text = [0; 8];
+    let mut length = 0;
+    let size = number.unsigned_abs();
+    if number < 0 {
+        text[length] = b'-';
+        length += 1;
+    }
+    if size >= 100 {
+        text[length] = b'0' + (size / 100) as u8;
+        length += 1;
+    }
+    if size >= 10 {
+        text[length] = b'0' + (size / 10 % 10) as u8;
+        length += 1;
+    }
+    text[length] = b'0' + (size % 10) as u8;
+    length += 1;
+    let mut next = 0;
+    while next < after.len() {
+        text[length] = after[next];
+        length += 1;
+        next += 1;
+    }
+    text[7] = length as u8;
+    u64::from_le_bytes(text)
+}
+
+/// Each number below 1000 and a space.
+static NUMBERS: [Piece; 1000] = {
+    let mut table = [0; 1000];
+    let mut number = 0;
+    while number < 1000 {
+        table[number] = piece(number as i32, b" ");
+        number += 1;
+    }
+    table
+};
+
+/// Each number below 1000 in three digits and a space.
+static THREE_DIGITS: [[u8; 4]; 1000] = {
+    let mut table = [*b"000 "; 1000];
+    let mut number = 0;
+    while number < 1000 {
+        table[number][0] += (number / 100) as u8;
+        table[number][1] += (number / 10 % 10) as u8;
+        table[number][2] += (number % 10) as u8;
+        number += 1;
+    }
+    table
+};
+
+/// The end of the line for each octet 8 and each bt.
+static ENDS: [[Piece; 4]; 256] = {
+    let mut table = [[0; 4]; 256];
+    let mut octet = 0;
+    while octet < 256 {
+        let mut bt = 0;
+        while bt < 4 {
+            let after = [b' ', b'0' + bt as u8, b'\n'];
+            table[octet][bt] = piece(octet as u8 as i8 as i32, &after);
+            bt += 1;
+        }
+        octet += 1;
+    }
+    table
+};
+
+/// Lines waiting to be written.
+type Lines = [u8; ROOM];
+
+/// Puts a piece at a place and returns the place after it.
+#[inline(always)]
+fn put(lines: &mut Lines, at: usize, piece: Piece) -> usize {
+    lines[at..at + 8].copy_from_slice(&piece.to_le_bytes());
+    at + (piece >> 56 & 7) as usize
+}
+
+/// Puts three digits and a space.
+#[inline(always)]
+fn put_three(lines: &mut Lines, at: usize, number: u32) -> usize {
+    lines[at..at + 4].copy_from_slice(&THREE_DIGITS[number as usize]);
+    at + 4
+}
+
+#[inline(always)]
+fn put_refusal(lines: &mut Lines, at: usize, number: u8) -> usize {
+    lines[at..at + 8].copy_from_slice(b"refused ");
+    lines[at + 8] = b'0' + number;
+    lines[at + 9] = b'\n';
+    at + 10
+}
+
+/// Puts a group's line at a place and returns the place after it.
+#[inline(always)]
+fn put_group(lines: &mut Lines, at: usize, group: &[u8; GROUP]) -> usize {
+    // Never fails. With it the compiler drops the checks of the stores.
+    assert!(at <= ROOM - LINE_ROOM);
+    let &[d24_17, d16_9, d8_1, o4, roff, o6, bs, bo, o9] = group;
+    let br = o6 & 15;
+    if o9 >> 3 != 0b00010 {
+        return put_refusal(lines, at, 2);
+    }
+    if matches!(br, 7 | 14 | 15) {
+        return put_refusal(lines, at, 3);
+    }
+    if roff < 2 {
+        return put_refusal(lines, at, 4);
+    }
+    if bs < 2 {
+        return put_refusal(lines, at, 5);
+    }
+    if bo == 0x80 {
+        return put_refusal(lines, at, 6);
+    }
+    let d = u32::from_be_bytes([o4 & 7, d24_17, d16_9, d8_1]);
+    // Three digits at a time; a step back takes the space off again.
+    let mut at = at;
+    if d >= 1_000_000 {
+        at = put(lines, at, NUMBERS[(d / 1_000_000) as usize]) - 1;
+        at = put_three(lines, at, d / 1000 % 1000) - 1;
+        at = put_three(lines, at, d % 1000);
+    } else if d >= 1000 {
+        at = put(lines, at, NUMBERS[(d / 1000) as usize]) - 1;
+        at = put_three(lines, at, d % 1000);
+    } else {
+        at = put(lines, at, NUMBERS[d as usize]);
+    }
+    at = put(lines, at, NUMBERS[(o4 >> 3) as usize]);
+    at = put(lines, at, NUMBERS[roff as usize]);
+    at = put(lines, at, NUMBERS[br as usize]);
+    at = put(lines, at, NUMBERS[bs as usize]);
+    put(lines, at, ENDS[bo as usize][(o9 & 3) as usize])
+}
+
+/// What went wrong, and on which stream.
+enum Failure {
+    Input(io::Error),
+    Output(io::Error),
+}
+
+fn list(input: &mut File, output: &mut File) -> Result<(), Failure> {
+    let mut octets = [0; HELD];
+    let mut kept = 0;
+    let mut lines = Box::new([0; ROOM]);
+    output.write_all(HEADER).map_err(Failure::Output)?;
+    loop {
+        let read = match input.read(&mut octets[kept..kept + READ]) {
+            Ok(0) => break,
+            Ok(read) => read,
+            Err(error) if error.kind() == ErrorKind::Interrupted => continue,
+            Err(error) => {
+                output
+                    .write_all(b"read failed\n")
+                    .map_err(Failure::Output)?;
+                return Err(Failure::Input(error));
+            }
+        };
+        let held = kept + read;
+        let mut groups = octets[..held].chunks_exact(GROUP);
+        let mut end = 0;
+        for group in &mut groups {
+            end = put_group(&mut lines, end, group.try_into().unwrap());
+        }
+        kept = groups.remainder().len();
+        octets.copy_within(held - kept..held, 0);
+        output.write_all(&lines[..end]).map_err(Failure::Output)?;
+    }
+    if kept > 0 {
+        output.write_all(b"refused 1\n").map_err(Failure::Output)?;
+    }
+    Ok(())
+}
+
+/// A stream without the standard library's buffer and its forgiveness of bad
+/// descriptors.
+fn raw(stream: impl AsFd) -> io::Result<File> {
+    Ok(File::from(stream.as_fd().try_clone_to_owned()?))
+}
+
+fn main() -> ExitCode {
+    let done = raw(io::stdin())
+        .map_err(Failure::Input)
+        .and_then(|mut input| {
+            let mut output = raw(io::stdout()).map_err(Failure::Output)?;
+            list(&mut input, &mut output)
+        });
+    match done {
+        Ok(()) => return ExitCode::SUCCESS,
+        Err(Failure::Input(error)) => eprintln!("listing: standard input: {error}"),
+        Err(Failure::Output(error)) => eprintln!("listing: standard output: {error}"),
+    }
+    ExitCode::FAILURE
+}

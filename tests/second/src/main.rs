@@ -1,0 +1,44 @@
+//! An independent second program: it tests others against its own reading of
+//! the paper.
+
+mod bench;
+mod draw;
+mod groups;
+mod listing;
+mod paper;
+mod report;
+mod run;
+mod temp;
+
+use std::path::PathBuf;
+use std::process::ExitCode;
+
+use report::Report;
+
+const USAGE: &str = "usage: second listing PATH | second bench-listing PATH PEER";
+
+/// A path that names the same file whatever the search path says.
+fn program(path: &str) -> PathBuf {
+    std::fs::canonicalize(path).unwrap_or_else(|_| path.into())
+}
+
+fn main() -> ExitCode {
+    let words: Vec<String> = std::env::args().skip(1).collect();
+    let words: Vec<&str> = words.iter().map(String::as_str).collect();
+    match words[..] {
+        ["listing", path] => {
+            let mut report = Report::default();
+            listing::check(&program(path), &mut report);
+            report.close()
+        }
+        ["bench-listing", path, peer] => bench::listing(&program(path), &program(peer)),
+        ["write-singly", count] => {
+            listing::write_singly(count.parse().unwrap_or(0));
+            ExitCode::SUCCESS
+        }
+        _ => {
+            eprintln!("{USAGE}");
+            ExitCode::from(2)
+        }
+    }
+}
