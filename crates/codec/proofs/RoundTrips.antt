@@ -15,7 +15,7 @@ use Rattle.codec.specs.NineOctets.{octet, bits, octetsOf, blockOf, field
 use Rattle.codec.specs.Claims.{WrittenIsRead, ReadIsWritten, cleared}
 use Rattle.codec.proofs.Complement.{signed-twos, twos-signed}
 use Rattle.codec.specs.Steps.{Fitting}
-use Rattle.codec.proofs.Tests.{write-passed, write-fields, read-fields, read-passed}
+use Rattle.codec.proofs.Tests.{write-passed, write-fields, read-fields, read-passed, block-fitting}
 
 -- ---- reading what was written
 
@@ -54,9 +54,6 @@ octet-bits : (o : ℕ) → o < 256 → bits 8 4 o * 8 + bits 3 1 o % 8 ≡ o
 octet-bits o h = rw (div-one o) (omega arith)
 
 module _ (s : List ℕ) (byte : Bytes s) where
-  d-low : blockOf s .d < 134217728
-  d-low = omega (arith, byte 0, byte 1, byte 2)
-
   same-octets : bits 8 4 (octet 9 s) ≡ 2 → octetsOf (blockOf s) ≡ cleared s
   same-octets id =
       let b1 = byte 0 in
@@ -77,7 +74,8 @@ pub read-is-written : ReadIsWritten
 read-is-written s byte h =
     let r : 0 ≡ firstOf (readTests s) = answer-zero _ refusedReading (λ (x : Reading). x .refusal) (λ n. refl) (firstOf (readTests s)) h in
     let p = read-passed s (sym r) in
-    let w : firstOf (fieldTests (blockOf s)) ≡ firstOf (writeTests (blockOf s)) = write-fields (blockOf s) (d-low s byte) (omega arith) (omega arith) in
+    let f = block-fitting s byte (p .2) in
+    let w = write-fields (blockOf s) (f .d-low) (f .blg-low) (f .bt-low) in
     ap (λ (x : Reading). writing (x .block)) (sym (answer-accepted _ refusedReading r))
     ∙ sym (answer-accepted (record { refusal = 0; octets = octetsOf (blockOf s) }) refusedWriting (sym (p .2) ∙ w))
     ∙ ap (λ (l : List ℕ). record { refusal = 0; octets = l }) (same-octets s byte (p .1))

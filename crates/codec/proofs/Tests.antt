@@ -1,16 +1,18 @@
 -- What the tests of reading and writing tell of the fields. Assumes nothing.
 use Prim.Native.Nat.{ℕ, _≤_, _<_, _^_}
-use mathlib.Core.Path.{_≡_, refl}
+use mathlib.Core.Path.{_≡_, refl, sym, subst}
 use mathlib.Core.Bool.{Bool, false, not, _||_}
 use mathlib.Core.List.{List, _∷_}
 use native.Mathlib.Omega.{arith}
 use borrow.Author.Tests.{eq-eqb, ne-eqb, lt-leb, le-ltb, leb-false, ltb-false, eqb-true, not-false}
 use lib.Dec.{eqb, leb, ltb}
 use lib.ListN.{length}
+use Rattle.octets.specs.Octets.{Bytes}
 use Rattle.octets.specs.Refusals.{firstOf, outside}
-use Rattle.octets.proofs.Refusals.{firstOf-cons, firstOf-zero, or-false, outside-false}
+use Rattle.octets.proofs.Refusals.{firstOf-cons, firstOf-zero, answer-accepted, answer-zero, or-false, outside-false}
 use Rattle.codec.specs.declared.Block.{Block}
-use Rattle.codec.specs.NineOctets.{octet, bits, blockOf, fieldTests, readTests, writeTests}
+use Rattle.codec.specs.declared.Reading.{Reading}
+use Rattle.codec.specs.NineOctets.{octet, bits, blockOf, fieldTests, readTests, writeTests, reading, refusedReading}
 use Rattle.codec.specs.Steps.{Fitting}
 
 -- ---- the refusal by the tests that led to it
@@ -62,3 +64,23 @@ read-passed s h =
     let p1 = firstOf-cons (1, not (eqb (length s) 9)) (two ∷ fieldTests (blockOf s)) refl h in
     let p2 = firstOf-cons two (fieldTests (blockOf s)) (p1 .1) (p1 .2) in
     (eqb-true _ _ (not-false _ (p1 .0)), eqb-true _ _ (not-false _ (p2 .0)), p2 .2)
+
+-- the fields of octets fit again
+pub block-fitting : (s : List ℕ) → Bytes s → firstOf (fieldTests (blockOf s)) ≡ 0 → Fitting (blockOf s)
+unfolding fieldTests
+block-fitting s byte h =
+    record {
+      d-low = omega (arith, byte 0, byte 1, byte 2);
+      blg-low = omega arith;
+      roff-low = omega (arith, byte 4);
+      br-low = omega arith;
+      bs-low = omega (arith, byte 6);
+      bo-in = firstOf-zero (fieldTests (blockOf s)) refl h .1 .1 .1 .0;
+      bt-low = omega arith;
+    }
+
+-- and so do those of an accepted reading
+pub read-fitting : (s : List ℕ) → Bytes s → reading s .refusal ≡ 0 → Fitting (reading s .block)
+read-fitting s byte h =
+    let r = answer-zero _ refusedReading (λ (x : Reading). x .refusal) (λ n. refl) (firstOf (readTests s)) h in
+    subst (λ (x : Reading). Fitting (x .block)) (answer-accepted _ refusedReading r) (block-fitting s byte (read-passed s (sym r) .2))

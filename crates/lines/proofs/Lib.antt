@@ -1,5 +1,6 @@
 pub mod Wrote
 pub mod Decimal
+pub mod Small
 pub mod Signed
 pub mod Lines
 pub mod Readings

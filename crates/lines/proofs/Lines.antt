@@ -1,13 +1,23 @@
 -- Laws of a group's line, and of the lines of several groups.
 -- Assumes nothing.
-use Prim.Native.Nat.{ℕ, _+_}
+use Prim.Native.Nat.{ℕ, suc, _+_, _^_, _≤_, _<_}
 use mathlib.Core.Path.{_≡_}
+use mathlib.Core.Bool.{false}
 use mathlib.Core.List.{List, _++_}
 use native.Mathlib.Numerals.{add-one}
-use borrow.Author.Tests.{eq-eqb, ne-eqb}
+use native.Mathlib.Omega.{arith}
+use borrow.Author.Tests.{eq-eqb, ne-eqb, ltb-false}
+use lib.Dec.{ltb}
+use lib.IntN.{ℤ, pos, negsuc}
+use lib.ListN.{length, length-append}
+use Rattle.octets.proofs.Refusals.{or-false}
+use Rattle.codec.specs.declared.Block.{Block}
+use Rattle.codec.specs.Steps.{Fitting}
 use Rattle.codec.specs.declared.Reading.{Reading}
-use Rattle.codec.specs.NineOctets.{reading}
-use Rattle.lines.specs.Listing.{fields, refused, line, group, lines}
+use Rattle.codec.specs.NineOctets.{reading, badOffset}
+use Rattle.lines.specs.Text.{signed}
+use Rattle.lines.specs.Listing.{fields, refused, line, group, lines, longest}
+use Rattle.lines.proofs.Decimal.{length-decimal}
 
 module _ (g : List ℕ) (r : Reading) (e : r ≡ reading g) where
   pub line-fields : r .refusal ≡ 0 → line g ≡ fields (r .block)
@@ -21,3 +31,31 @@ module _ (g : List ℕ) (r : Reading) (e : r ≡ reading g) where
 pub lines-next : (n : ℕ) (s : List ℕ) → lines (n + 1) s ≡ lines n s ++ line (group s n)
 unfolding lines
 lines-next n s = rw add-one
+
+-- ---- how long they are
+
+signed-short : (z : ℤ) → badOffset z ≡ false → length (signed z) ≤ 4
+unfolding signed
+signed-short (pos n) h = let l : n ≤ 127 = ltb-false 127 n h in omega (arith, length-decimal 2 n (omega arith))
+signed-short (negsuc n) h =
+    let l : n ≤ 126 = ltb-false 126 n (or-false (ltb 126 n) false h .0) in
+    omega (arith, length-decimal 2 (suc n) (omega arith))
+
+pub fields-short : (b : Block) → Fitting b → length (fields b) ≤ longest
+unfolding fields
+fields-short b f =
+    simp length-append
+    (omega (
+      arith,
+      length-decimal 8 (b .d) (omega (arith, f .d-low)),
+      length-decimal 1 (b .blg) (omega (arith, f .blg-low)),
+      length-decimal 2 (b .roff) (omega (arith, f .roff-low)),
+      length-decimal 1 (b .br) (omega (arith, f .br-low)),
+      length-decimal 2 (b .bs) (omega (arith, f .bs-low)),
+      signed-short (b .bo) (f .bo-in),
+      length-decimal 0 (b .bt) (omega (arith, f .bt-low)),
+    ))
+
+pub refused-short : (n : ℕ) → n < 2 ^ 32 → length (refused n) ≤ longest
+unfolding refused
+refused-short n h = simp length-append (omega (arith, length-decimal 9 n (omega arith)))

@@ -6,8 +6,9 @@ use mathlib.Core.List.{List, [], _∷_, _++_}
 use native.Mathlib.Nat.{add-zero, zero-add}
 use native.Mathlib.Numerals.{add-one}
 use native.Mathlib.Omega.{arith}
-use lib.ListN.{length, getD, take, drop, length-append}
-use lib.Seq.{sets, sets-eq, length-sets, split-at, take-suc, take-all}
+use lib.ListN.{length, getD, take, drop, set, length-append}
+use lib.Seq.{sets, sets-eq, length-sets, set-set, split-at, take-suc, take-all, take-append-seam}
+use Rattle.octets.specs.Octets.{zeroFrom, holdsOnly}
 use Rattle.lines.specs.Put.{Room, Wrote}
 
 sets-append : (l : List ℕ) (at : ℕ) (x y : List ℕ) → sets l at (x ++ y) ≡ sets (sets l at x) (at + length x) y
@@ -15,6 +16,11 @@ sets-append l at [] y = ap (λ k. sets l k y) (sym (add-zero at))
 sets-append l at (b ∷ x) y =
     let e : suc at + length x ≡ at + suc (length x) = omega arith in
     sets-append _ (suc at) x y ∙ ap (λ k. sets (sets l at (b ∷ x)) k y) e
+
+-- what is put in the place of an octet leaves no trace of it
+pub sets-over : (l : List ℕ) (at a : ℕ) (x : List ℕ) → 0 < length x → sets (set l at a) at x ≡ sets l at x
+sets-over l at a [] h = absurd (omega arith)
+sets-over l at a (b ∷ x) h = rw set-set
 
 pub length-wrote : {l l₁ x : List ℕ} {at r : ℕ} → Wrote l at x r l₁ → length l₁ ≡ length l
 length-wrote w = ap length (w .holds) ∙ simp length-sets
@@ -46,6 +52,10 @@ module _ (s : List ℕ) (i : ℕ) {l l₁ : List ℕ} {at r : ℕ} (w : Wrote l 
   pub text-whole : length s ≤ i → Wrote l at s r l₁
   text-whole h = rw (take-all i s h) at w
 
--- at the start of the memory: the text, and behind it what stood there
-pub at-start : {l l₁ x : List ℕ} {r : ℕ} → Wrote l 0 x r l₁ → length x ≤ length l → (r ≡ length x) × (l₁ ≡ x ++ drop (length x) l)
-at-start {l} {x = x} w h = (w .place ∙ zero-add (length x), w .holds ∙ (sets-eq x l 0 (rw zero-add h) ∙ rw zero-add))
+-- put at the start, and the rest wiped: the memory holds the text only
+pub start-wiped : {l l₁ x : List ℕ} {r : ℕ} → Wrote l 0 x r l₁ → length x ≤ length l → (r ≡ length x) × (zeroFrom r l₁ ≡ holdsOnly (length l) x)
+start-wiped {l} {l₁} {x} {r} w h =
+    let e : r ≡ length x = w .place ∙ zero-add (length x) in
+    let f : l₁ ≡ x ++ drop (length x) l = w .holds ∙ (sets-eq x l 0 (rw zero-add h) ∙ rw zero-add) in
+    let g : take r l₁ ≡ x = rw (e, f, take-append-seam) in
+    (e, rw (g, length-wrote w, e))

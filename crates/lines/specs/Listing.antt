@@ -1,6 +1,6 @@
 -- The listing of nine-octet groups: a header, and a line for each group.
 use Prim.Native.Nat.{ℕ, zero, suc, _+_, _*_, _/_}
-use mathlib.Core.Bool.{Bool, cond}
+use mathlib.Core.Bool.{cond}
 use mathlib.Core.List.{List, [], _++_}
 use lib.Dec.{eqb, leb}
 use lib.ListN.{length, take, drop}
@@ -59,18 +59,10 @@ listed s = lines (groups s) s
 abbrev pub listing : List ℕ → List ℕ
 listing s = header ++ listed s
 
--- no line is longer than this: six numbers below 2^32 and a signed one, with an octet after each
+-- no line is longer than "134217727 31 255 13 255 -127 3" and its end
 abbrev pub longest : ℕ
-longest = 78
+longest = 31
 
--- whether the memory t has room for a longest line for each group of s
-abbrev pub roomy : List ℕ → List ℕ → Bool
-roomy s t = leb (groups s * longest) (length t)
-
--- what `list` answers: how many octets the lines take, 0 without room
-abbrev pub answer : List ℕ → List ℕ → ℕ
-answer s t = cond (roomy s t) (length (listed s)) 0
-
--- what `list` leaves in t: the lines, and behind them what stood there; all as it was without room
-abbrev pub leaves : List ℕ → List ℕ → List ℕ
-leaves s t = cond (roomy s t) (listed s ++ drop (length (listed s)) t) t
+-- the lines that a lent text gets: all, or none where it has no room for a longest line for each group
+abbrev pub told : List ℕ → List ℕ → List ℕ
+told s t = cond (leb (groups s * longest) (length t)) (listed s) []

@@ -1,17 +1,19 @@
 // Lists nine-octet groups: a line of text for each, put into lent memory.
 ghost use mathlib.Core.Path.{_≡_};
+ghost use mathlib.Core.Bool.{cond};
 ghost use mathlib.Core.List.{[], _∷_, _++_};
-ghost use Prim.Native.Nat.{_+_, _<_, _≤_};
+ghost use Prim.Native.Nat.{_+_, _*_, _<_, _≤_};
 ghost use lib.IntN.{natAbs};
 ghost use lib.ListN.{length};
 ghost use Rattle.lines.specs.Text.{decimal, signed};
-ghost use Rattle.lines.specs.Listing.{header, fields, refused, line, group, groups, answer, leaves, longest};
+ghost use Rattle.octets.specs.Octets.{holdsOnly};
+ghost use Rattle.lines.specs.Listing.{header, fields, refused, line, group, groups, listed, longest, told};
 ghost use Rattle.lines.specs.Put.{Room, Wrote, three, field};
 ghost use Rattle.lines.specs.Claims.{Claims};
 use codec::Block;
 
-// No line is longer: six numbers below 2^32 and a signed one, with an octet after each.
-pub const LONGEST: usize = 78;
+// No line is longer: "134217727 31 255 13 255 -127 3" and its end.
+pub const LONGEST: usize = 31;
 
 // One octet: whatever is put goes through here.
 fn put(out: &mut [u8], at: usize, b: u8) -> usize
@@ -52,31 +54,53 @@ fn put_three(out: &mut [u8], at: usize, n: u32) -> usize
     put(out, j, digit(n % 10))
 }
 
-// A number below 1000, with no zero in front.
+// 1 where it holds, else 0: a place moved by it takes no branch, which the processor would often guess wrong.
+fn one_if(holds: bool) -> usize
+    ensures { λ r. ⌜ r ≡ cond holds 1 0 ⌝ }
+{
+    if holds { 1 } else { 0 }
+}
+
+// A number below 1000, with no zero in front: such a zero is put too, and the next digit then takes its place.
 fn put_small(out: &mut [u8], at: usize, n: u32) -> usize
     requires { ⌜ (n < 1000) × Room (now out) at (decimal n) ⌝ }
     ensures { λ r. ⌜ Wrote (now (out .entry)) at (decimal n) r (now (out .exit)) ⌝ }
 {
-    if n < 10 {
-        return put(out, at, digit(n));
-    }
-    if n < 100 {
-        let i = put(out, at, digit(n / 10));
-        return put(out, i, digit(n % 10));
-    }
-    put_three(out, at, n)
+    let hundreds = digit(n / 100);
+    let tens = digit(n / 10 % 10);
+    let ones = digit(n % 10);
+    let i = at + one_if(99 < n);
+    let j = i + one_if(9 < n);
+    out[at] = hundreds;
+    out[i] = tens;
+    out[j] = ones;
+    j + 1
 }
 
-// Three digits at a time: no division by a variable, and one turn for most numbers.
+// A number from 1000 on, three digits at a time: no division by a variable, and few turns.
+fn put_long(out: &mut [u8], at: usize, n: u32) -> usize
+    requires { ⌜ (1000 ≤ n) × Room (now out) at (decimal n) ⌝ }
+    ensures { λ r. ⌜ Wrote (now (out .entry)) at (decimal n) r (now (out .exit)) ⌝ }
+{
+    let high = n / 1000;
+    if high < 1000 {
+        let i = put_small(out, at, high);
+        return put_three(out, i, n % 1000);
+    }
+    let i = put_long(out, at, high);
+    put_three(out, i, n % 1000)
+}
+
+// Apart from the recursion, so that it is inlined: most numbers are below 1000.
 fn put_decimal(out: &mut [u8], at: usize, n: u32) -> usize
     requires { ⌜ Room (now out) at (decimal n) ⌝ }
     ensures { λ r. ⌜ Wrote (now (out .entry)) at (decimal n) r (now (out .exit)) ⌝ }
 {
     if n < 1000 {
-        return put_small(out, at, n);
+        put_small(out, at, n)
+    } else {
+        put_long(out, at, n)
     }
-    let i = put_decimal(out, at, n / 1000);
-    put_three(out, i, n % 1000)
 }
 
 // A number without its sign. The least i32 has no i32 of that size, so 1 is added after the cast.
@@ -88,32 +112,27 @@ fn magnitude(z: i32) -> u32
 
 // A number, and the octet that follows it.
 fn put_field(out: &mut [u8], at: usize, n: u32, after: u8) -> usize
-    requires { ⌜ at + 11 ≤ length (now out) ⌝ }
+    requires { ⌜ Room (now out) at (field n after) ⌝ }
     ensures { λ r. ⌜ Wrote (now (out .entry)) at (field n after) r (now (out .exit)) ⌝ }
-    ensures { λ r. ⌜ r ≤ at + 11 ⌝ }
 {
     let i = put_decimal(out, at, n);
     put(out, i, after)
 }
 
-// A signed number, and a space.
+// A signed number, and a space: a minus is put, and the number takes its place where it is not negative.
 fn put_signed(out: &mut [u8], at: usize, z: i32) -> usize
-    requires { ⌜ at + 12 ≤ length (now out) ⌝ }
+    requires { ⌜ Room (now out) at (signed z ++ (32 ∷ [])) ⌝ }
     ensures { λ r. ⌜ Wrote (now (out .entry)) at (signed z ++ (32 ∷ [])) r (now (out .exit)) ⌝ }
-    ensures { λ r. ⌜ r ≤ at + 12 ⌝ }
 {
     let n = magnitude(z);
-    if z < 0 {
-        let i = put(out, at, b'-');
-        return put_field(out, i, n, b' ');
-    }
-    put_field(out, at, n, b' ')
+    let i = at + one_if(z < 0);
+    out[at] = b'-';
+    put_field(out, i, n, b' ')
 }
 
 fn put_fields(out: &mut [u8], at: usize, b: Block) -> usize
-    requires { ⌜ at + longest ≤ length (now out) ⌝ }
+    requires { ⌜ Room (now out) at (fields b) ⌝ }
     ensures { λ r. ⌜ Wrote (now (out .entry)) at (fields b) r (now (out .exit)) ⌝ }
-    ensures { λ r. ⌜ r ≤ at + longest ⌝ }
 {
     let i = put_field(out, at, b.d, b' ');
     let i = put_field(out, i, b.blg, b' ');
@@ -125,20 +144,19 @@ fn put_fields(out: &mut [u8], at: usize, b: Block) -> usize
 }
 
 fn put_refused(out: &mut [u8], at: usize, n: u32) -> usize
-    requires { ⌜ at + longest ≤ length (now out) ⌝ }
+    requires { ⌜ Room (now out) at (refused n) ⌝ }
     ensures { λ r. ⌜ Wrote (now (out .entry)) at (refused n) r (now (out .exit)) ⌝ }
-    ensures { λ r. ⌜ r ≤ at + longest ⌝ }
 {
     let i = put_text(out, at, b"refused ");
     put_field(out, i, n, b'\n')
 }
 
-fn put_line(out: &mut [u8], at: usize, octets: &[u8]) -> usize
+fn put_line(out: &mut [u8], at: usize, group: &[u8]) -> usize
     requires { ⌜ at + longest ≤ length (now out) ⌝ }
-    ensures { λ r. ⌜ Wrote (now (out .entry)) at (line (now (octets .entry))) r (now (out .exit)) ⌝ }
+    ensures { λ r. ⌜ Wrote (now (out .entry)) at (line (now (group .entry))) r (now (out .exit)) ⌝ }
     ensures { λ r. ⌜ r ≤ at + longest ⌝ }
 {
-    let r = codec::read(octets);
+    let r = codec::read(group);
     if r.refusal == 0 {
         return put_fields(out, at, r.block);
     }
@@ -146,35 +164,47 @@ fn put_line(out: &mut [u8], at: usize, octets: &[u8]) -> usize
 }
 
 // Group k, counted from 0.
-fn group_of(octets: &[u8], k: usize) -> &[u8]
-    requires { ⌜ k < groups (now octets) ⌝ }
-    ensures { λ r. ⌜ now r ≡ group (now (octets .entry)) k ⌝ }
+fn group_of(input: &[u8], k: usize) -> &[u8]
+    requires { ⌜ k < groups (now input) ⌝ }
+    ensures { λ r. ⌜ now r ≡ group (now (input .entry)) k ⌝ }
 {
     let from = k * 9;
-    if octets.len() - from < 9 {
-        return &octets[from..];
+    if input.len() - from < 9 {
+        return &input[from..];
     }
     let end = from + 9;
-    &octets[from..end]
+    &input[from..end]
 }
 
-// Puts the lines of all groups at the start of text, and answers how many octets they take. Where text has no
-// room for a longest line for each group, it is left as it is, and the answer is 0.
-pub fn list(octets: &[u8], text: &mut [u8]) -> usize
-    ensures { λ r. ⌜ r ≡ answer (now (octets .entry)) (now (text .entry)) ⌝ }
-    ensures { λ _. ⌜ now (text .exit) ≡ leaves (now (octets .entry)) (now (text .entry)) ⌝ }
+// The lines of the n groups, from the start of text on.
+fn put_lines(text: &mut [u8], input: &[u8], n: usize) -> usize
+    requires { ⌜ (n ≡ groups (now input)) × (n * longest ≤ length (now text)) ⌝ }
+    ensures { λ r. ⌜ Wrote (now (text .entry)) 0 (listed (now (input .entry))) r (now (text .exit)) ⌝ }
+    ensures { λ r. ⌜ r ≤ n * longest ⌝ }
 {
-    let n = octets.len() / 9 + (octets.len() % 9 + 8) / 9;
-    if text.len() / LONGEST < n {
-        return 0;
-    }
     let mut at = 0;
     let mut k = 0;
     while k < n {
-        at = put_line(text, at, group_of(octets, k));
+        at = put_line(text, at, group_of(input, k));
         k += 1;
     }
     at
+}
+
+// Puts the lines of all groups of the input into text, which then holds them and zeros only, and answers how many octets
+// they take. Where text has no room for a longest line for each group, it gets none.
+pub fn list(input: &[u8], text: &mut [u8]) -> usize
+    ensures { λ r. ⌜ r ≡ length (told (now (input .entry)) (now (text .entry))) ⌝ }
+    ensures { λ _. ⌜ now (text .exit) ≡ holdsOnly (length (now (text .entry))) (told (now (input .entry)) (now (text .entry))) ⌝ }
+{
+    let n = input.len() / 9 + (input.len() % 9 + 8) / 9;
+    if text.len() / LONGEST < n {
+        octets::clear_from(text, 0);
+        return 0;
+    }
+    let end = put_lines(text, input, n);
+    octets::clear_from(text, end);
+    end
 }
 
 pub fn header() -> [u8; 23]

@@ -1,16 +1,17 @@
--- What `lines::list` promises, where there is room.
+-- What `lines::list` promises, where there is room, and of a part of a larger text.
 -- Assumes nothing.
 use Prim.Native.Nat.{ℕ, _*_}
 use mathlib.Core.Path.{_≡_, ap, sym, _∙_}
-use mathlib.Core.List.{List}
+use mathlib.Core.List.{List, _++_}
 use native.Mathlib.Omega.{arith}
 use borrow.Author.Tests.{le-leb}
 use lib.ListN.{length, take, length-append}
-use lib.Seq.{take-append-seam}
-use Rattle.lines.specs.Listing.{groups, listed, longest, answer, leaves}
+use lib.Seq.{take-append-seam, take-append-le}
+use Rattle.octets.specs.Octets.{holdsOnly}
+use Rattle.lines.specs.Listing.{groups, listed, longest, told}
 use Rattle.listing.specs.Turns.{Roomy, Lines}
 
-pub with-room : (s t : List ℕ) {t′ : List ℕ} {r : ℕ} → Roomy s t → r ≡ answer s t → t′ ≡ leaves s t → Lines s r t′
+pub with-room : (s t : List ℕ) {t′ : List ℕ} {r : ℕ} → Roomy s t → r ≡ length (told s t) → t′ ≡ holdsOnly (length t) (told s t) → Lines s r t′
 with-room s t {t′} {r} room e f =
     let h = le-leb (groups s * longest) (length t) room in
     let w : take r t′ ≡ listed s = rw (e, f, h, take-append-seam) in
@@ -18,4 +19,14 @@ with-room s t {t′} {r} room e f =
     record {
       counts = (rw (f, h, length-append) (omega arith), n ∙ sym (ap length w));
       whole = w;
+    }
+
+-- the lines stand also where more stands behind them
+pub lines-more : (s t rest : List ℕ) {r : ℕ} → Lines s r t → Lines s r (t ++ rest)
+lines-more s t rest {r} l =
+    let within = l .counts .0 in
+    let front = take-append-le r t rest within in
+    record {
+      counts = (rw length-append (omega arith), l .counts .1 ∙ sym (ap length front));
+      whole = front ∙ l .whole;
     }

@@ -21,11 +21,13 @@ enum Turn {
 }
 
 // All lines of octets: the text has room for them.
+// Lends only the room that the lines may need, since all that is lent is wiped.
 fn list(octets: &[u8], text: &mut [u8]) -> usize
     requires { ⌜ Roomy (now octets) (now text) ⌝ }
     ensures { λ r. ⌜ Lines (now (octets .entry)) r (now (text .exit)) ⌝ }
 {
-    lines::list(octets, text)
+    let room = (octets.len() + 8) / 9 * lines::LONGEST;
+    lines::list(octets, &mut text[..room])
 }
 
 // Writes the lines of octets, and answers whether all were written.

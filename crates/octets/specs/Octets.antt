@@ -31,3 +31,7 @@ zeros m = every (λ b. eqb b 0) m
 -- the octets from a place on made 0
 abbrev pub zeroFrom : ℕ → List ℕ → List ℕ
 zeroFrom at m = take at m ++ replicate (length m - at) 0
+
+-- an output list of n places that holds the answer only: the answer, and then zeros
+abbrev pub holdsOnly : ℕ → List ℕ → List ℕ
+holdsOnly n answer = answer ++ replicate (n - length answer) 0

@@ -28,7 +28,7 @@ part-result-end c = search needs
 returns : tie.Need-returns
 returns c =
     let k = c .before .before .args .k in
-    let s = now (c .before .before .args .octets) in
+    let s = now (c .before .before .args .input) in
     take-all (length s - k * 9) (drop (k * 9) s) (simp length-drop (omega arith))
     ∙ sym (take-all 9 (drop (k * 9) s) (simp length-drop (omega arith)))
 

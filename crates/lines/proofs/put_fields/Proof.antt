@@ -1,35 +1,76 @@
--- `lines::put_fields` meets its contract: seven texts one after another. bo is read back from its bits.
--- Assumes nothing.
-use mathlib.Core.List.{append-assoc}
+-- `lines::put_fields` meets its contract: seven texts one after another. bo is read back from its bits. Assumes nothing.
+use Prim.Native.Nat.{ℕ, _+_, _≤_}
+use mathlib.Core.Path.{_≡_, refl, ap}
+use mathlib.Core.List.{List, [], _∷_, _++_, append-assoc}
 use native.Mathlib.Omega.{arith}
-use borrow.Author.Needs.{needs}
+use denote.Ref.{now}
+use lib.ListN.{length, length-append}
+use lib.IntN.{ℤ}
 use mir.Syntax.{w32}
+use mir.Val.{toZ, ofZ}
 use mir.Facts.{toZ-ofZ}
+use Rattle.codec.specs.declared.Block.{Block}
+use Rattle.lines.specs.Text.{signed}
 use Rattle.lines.specs.Listing.{fields}
+use Rattle.lines.specs.Put.{field}
 use Rattle.lines.proofs.Wrote.{and-then, length-wrote}
+use borrow.Author.Needs.{needs}
 use Rattle.lines.proofs.put_fields.Statement.{statement}
 use Rattle.lines.proofs.put_fields.Tie as tie
 
+-- bo is read back from its bits
+bo-same : (c : tie.After-struct-told) → toZ w32 (ofZ w32 (c .before .before .before .before .before .before .before .before .before .before .before .before .before .before .before .before .before .before .before .before .before .before .before .args .b .bo)) ≡ c .before .before .before .before .before .before .before .before .before .before .before .before .before .before .before .before .before .before .before .before .before .before .before .args .b .bo
+bo-same c = toZ-ofZ (record { sfits = c .struct-told .given .1 .1 .1 .1 .1 .0 .1 })
+
+-- a signed number, and a space
+abbrev signed-field : ℤ → List ℕ
+signed-field z = signed z ++ (32 ∷ [])
+
+-- there is room for the seven texts together
+all-fit : (c : tie.Start) → (b : Block) → b ≡ c .args .b
+    → c .args .at
+    + length (field (b .d) 32)
+    + length (field (b .blg) 32)
+    + length (field (b .roff) 32)
+    + length (field (b .br) 32)
+    + length (field (b .bs) 32)
+    + length (signed-field (b .bo))
+    + length (field (b .bt) 10)
+    ≤ length (now (c .args .out))
+unfolding fields
+all-fit c b e = simp (e, length-append) (omega (arith, simp length-append at (c .pre .room)))
+
 put-field-requires : tie.Need-put-field-requires
-put-field-requires c κs = search needs
+put-field-requires c κs = record { room = omega (arith, all-fit (c .before .before) _ refl) }
 
 put-field-requires-2 : tie.Need-put-field-requires-2
-put-field-requires-2 c κs = search needs
+put-field-requires-2 c κs = record { room = omega (arith, all-fit (c .before .before .before .before .before .before) _ refl) }
 
 put-field-requires-3 : tie.Need-put-field-requires-3
-put-field-requires-3 c κs = search needs
+put-field-requires-3 c κs = record { room = omega (arith, all-fit (c .before .before .before .before .before .before .before .before .before .before) _ refl) }
 
 put-field-requires-4 : tie.Need-put-field-requires-4
-put-field-requires-4 c κs = search needs
+put-field-requires-4 c κs = record { room = omega (arith, all-fit (c .before .before .before .before .before .before .before .before .before .before .before .before .before .before) _ refl) }
 
 put-field-requires-5 : tie.Need-put-field-requires-5
-put-field-requires-5 c κs = search needs
+put-field-requires-5 c κs = record { room = omega (arith, all-fit (c .before .before .before .before .before .before .before .before .before .before .before .before .before .before .before .before .before .before) _ refl) }
 
 put-signed-requires : tie.Need-put-signed-requires
-put-signed-requires c κs = search needs
+put-signed-requires c κs = rw (bo-same c) (record { room = omega (arith, all-fit (c .before .before .before .before .before .before .before .before .before .before .before .before .before .before .before .before .before .before .before .before .before .before .before) _ refl) })
 
 put-field-requires-6 : tie.Need-put-field-requires-6
-put-field-requires-6 c κs = search needs
+put-field-requires-6 c κs =
+    record {
+      room =
+          omega (
+            arith,
+            ap (λ z. length (signed-field z)) (bo-same (c .before .before .before .before)),
+            all-fit (c .before .before .before .before .before .before .before .before .before .before .before .before .before .before .before .before .before .before .before .before .before .before .before .before .before .before .before) _ refl,
+          );
+    }
+
+same-length : tie.Need-same-length
+same-length c = search needs
 
 returns : tie.Need-returns
 unfolding fields
@@ -41,18 +82,13 @@ returns c =
     let c3 = c4 .before .before .before .before in
     let c2 = c3 .before .before .before .before in
     let c1 = c2 .before .before .before .before in
-    let bo = toZ-ofZ {w = w32} {z = c1 .before .before .before .args .b .bo} (record { sfits = c6 .before .struct-told .given .1 .1 .1 .1 .1 .0 .1 }) in
-    let w7 = c7 .put-field6 .ensures .0 in
-    let w6 = and-then (rw bo at (c6 .put-signed .ensures .0)) w7 in
-    let w5 = and-then (c5 .put-field5 .ensures .0) w6 in
-    let w4 = and-then (c4 .put-field4 .ensures .0) w5 in
-    let w3 = and-then (c3 .put-field3 .ensures .0) w4 in
-    let w2 = and-then (c2 .put-field2 .ensures .0) w3 in
-    let w1 = and-then (c1 .put-field .ensures .0) w2 in
-    (simp append-assoc (simp append-assoc at w1), omega arith)
-
-same-length : tie.Need-same-length
-same-length c = length-wrote (returns c .0)
+    let w6 = and-then (rw (bo-same (c6 .before)) at (c6 .put-signed .ensures)) (c7 .put-field6 .ensures) in
+    let w5 = and-then (c5 .put-field5 .ensures) w6 in
+    let w4 = and-then (c4 .put-field4 .ensures) w5 in
+    let w3 = and-then (c3 .put-field3 .ensures) w4 in
+    let w2 = and-then (c2 .put-field2 .ensures) w3 in
+    let w1 = and-then (c1 .put-field .ensures) w2 in
+    simp append-assoc (simp append-assoc at w1)
 
 pub put-fields-spec : {M : Type 1} → statement M
 put-fields-spec =

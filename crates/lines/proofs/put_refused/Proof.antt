@@ -1,9 +1,8 @@
--- `lines::put_refused` meets its contract: the word, and then the number.
--- Assumes nothing.
-use native.Mathlib.Omega.{arith}
-use borrow.Author.Needs.{needs}
+-- `lines::put_refused` meets its contract: the word, and then the number. Assumes nothing.
 use Rattle.lines.specs.Listing.{refused}
-use Rattle.lines.proofs.Wrote.{and-then}
+use Rattle.lines.specs.Put.{field}
+use Rattle.lines.proofs.Wrote.{and-then, room-first, room-then}
+use borrow.Author.Needs.{needs}
 use Rattle.lines.proofs.put_refused.Statement.{statement}
 use Rattle.lines.proofs.put_refused.Tie as tie
 
@@ -11,18 +10,19 @@ slice-aggregate-put-text : tie.Need-slice-aggregate-put-text
 slice-aggregate-put-text c = search needs
 
 put-text-requires : tie.Need-put-text-requires
-put-text-requires c κs = search needs
+unfolding refused
+put-text-requires c κs = let s = c .before .before .before in room-first (field (s .args .n) 10) (s .pre)
 
 put-field-requires : tie.Need-put-field-requires
-put-field-requires c κs = search needs
+unfolding refused
+put-field-requires c κs = let p = c .before .before .before in room-then (p .before .before .before .before .pre) (p .put-text .ensures)
 
 same-length : tie.Need-same-length
 same-length c = search needs
 
 returns : tie.Need-returns
 unfolding refused
-returns c =
-    (and-then (c .before .before .before .before .before .before .put-text .ensures) (c .before .before .put-field .ensures .0), omega arith)
+returns c = and-then (c .before .before .before .before .before .before .put-text .ensures) (c .before .before .put-field .ensures)
 
 pub put-refused-spec : {M : Type 1} → statement M
 put-refused-spec =
