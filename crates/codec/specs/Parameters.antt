@@ -26,8 +26,8 @@ minimum number = getD (rowOf number) 0 0
 abbrev pub maximum : ℕ → ℕ
 maximum number = getD (rowOf number) 1 0
 
-abbrev pub usual : ℕ → ℕ
-usual number = getD (rowOf number) 2 0
+abbrev pub default : ℕ → ℕ
+default number = getD (rowOf number) 2 0
 
 abbrev pub step : ℕ → ℕ
 step number = getD (rowOf number) 3 0
@@ -44,4 +44,4 @@ parameterTests number figure = (22, outside 1 3 number) ∷ (10, not (fits numbe
 
 -- the default of a parameter's row
 abbrev pub defaultFound : ℕ → Found
-defaultFound number = answer (firstOf ((22, outside 1 3 number) ∷ [])) (record { refusal = 0; number = usual number }) refusedFound
+defaultFound number = answer (firstOf ((22, outside 1 3 number) ∷ [])) (record { refusal = 0; number = default number }) refusedFound

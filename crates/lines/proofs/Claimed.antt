@@ -1,5 +1,4 @@
--- The claims of specs/Claims.antt.
--- Assumes nothing.
+-- The claims. Assumes nothing.
 use mathlib.Core.Path.{refl, sym}
 use Rattle.lines.specs.Text.{digits, decimal, signed}
 use Rattle.lines.specs.Listing.{fields, refused, line, lines}

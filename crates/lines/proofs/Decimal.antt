@@ -1,5 +1,4 @@
--- Laws of numbers in decimal.
--- Assumes nothing.
+-- Laws of numbers in decimal. Assumes nothing.
 use Prim.Native.Nat.{ℕ, zero, suc, _+_, _/_, _%_, _^_, _≤_, _<_}
 use mathlib.Core.Path.{_≡_, refl, ap, _∙_}
 use mathlib.Core.Bool.{Bool, true, false}
@@ -10,7 +9,7 @@ use borrow.Author.Tests.{lt-ltb, le-ltb, ltb-true, ltb-false}
 use lib.Dec.{ltb}
 use lib.ListN.{length, length-append}
 use Rattle.lines.specs.Text.{digits, decimal}
-use Rattle.lines.specs.Put.{three}
+use Rattle.lines.specs.Steps.{three}
 
 -- the steps taken make no difference where they are enough
 digits-steps : (j k n : ℕ) → n ≤ j → n ≤ k → digits j n ≡ digits k n

@@ -1,5 +1,4 @@
--- Laws of a group's line, and of the lines of several groups.
--- Assumes nothing.
+-- Laws of a group's line, and of the lines of several groups. Assumes nothing.
 use Prim.Native.Nat.{ℕ, suc, _+_, _^_, _≤_, _<_}
 use mathlib.Core.Path.{_≡_}
 use mathlib.Core.Bool.{false}

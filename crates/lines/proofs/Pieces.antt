@@ -1,5 +1,4 @@
--- An input that comes in pieces of whole groups.
--- Assumes nothing.
+-- An input that comes in pieces of whole groups. Assumes nothing.
 use Prim.Native.Nat.{ℕ, zero, suc, _+_, _*_, _/_, _%_, _≤_}
 use mathlib.Core.Path.{_≡_, refl}
 use mathlib.Core.List.{List, _++_, append-assoc, append-nil}

@@ -1,5 +1,4 @@
--- What `codec` says of the readings that the claims speak of. Nothing else here looks into its definitions.
--- Assumes nothing.
+-- What `codec` says of the readings that the claims speak of. Nothing else here looks into its definitions. Assumes nothing.
 use Prim.Native.Nat.{ℕ}
 use mathlib.Core.Path.{_≡_, refl}
 use mathlib.Core.List.{List, [], _∷_}

@@ -1,5 +1,4 @@
--- Signed numbers in decimal, and the size of one of 32 bits, as the code works them out. omega does not read ℤ.
--- Assumes nothing.
+-- Signed numbers in decimal, and the size of one of 32 bits, as the code works them out. omega does not read ℤ. Assumes nothing.
 use Prim.Native.Nat.{ℕ, suc, _+_, _-_, _<_, _^_}
 use mathlib.Core.Path.{_≡_, refl, _∙_}
 use mathlib.Core.Bool.{true, false, cond, true≢false}
@@ -16,7 +15,7 @@ use mir.Val.{Fits, SFits, toZ, ofZ}
 use mir.Facts.{toZ-ofZ}
 use lib.ListN.{set, length-set, length-append}
 use Rattle.lines.specs.Text.{signed}
-use Rattle.lines.specs.Put.{Room, Wrote, field}
+use Rattle.lines.specs.Steps.{Room, Wrote, field}
 use Rattle.lines.proofs.Wrote.{sets-over}
 
 none-below : (n : ℕ) → ltb n 0 ≡ true → ⊥

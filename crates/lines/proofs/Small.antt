@@ -1,5 +1,4 @@
--- A number below 1000, digit by digit, each zero in front of it overwritten by the next digit.
--- Assumes nothing.
+-- A number below 1000, digit by digit, each zero in front of it overwritten by the next digit. Assumes nothing.
 use Prim.Native.Nat.{ℕ, suc, _+_, _/_, _%_, _≤_, _<_}
 use mathlib.Core.Path.{_≡_, refl, _∙_}
 use mathlib.Core.Bool.{Bool, true, false, cond}
@@ -12,7 +11,7 @@ use lib.Dec.{ltb}
 use lib.ListN.{length, set}
 use lib.Seq.{sets, set-set}
 use Rattle.lines.specs.Text.{decimal}
-use Rattle.lines.specs.Put.{Wrote}
+use Rattle.lines.specs.Steps.{Wrote}
 use Rattle.lines.proofs.Decimal.{decimal-one, decimal-two, decimal-three}
 
 -- where the second digit goes, and the third

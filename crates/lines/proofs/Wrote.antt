@@ -1,5 +1,4 @@
--- Laws of texts that are put one after another.
--- Assumes nothing.
+-- Laws of texts that are put one after another. Assumes nothing.
 use Prim.Native.Nat.{ℕ, suc, _+_, _≤_, _<_}
 use mathlib.Core.Path.{_≡_, ap, sym, _∙_}
 use mathlib.Core.List.{List, [], _∷_, _++_}
@@ -9,7 +8,7 @@ use native.Mathlib.Omega.{arith}
 use lib.ListN.{length, getD, take, drop, set, length-append}
 use lib.Seq.{sets, sets-eq, length-sets, set-set, split-at, take-suc, take-all, take-append-seam}
 use Rattle.octets.specs.Octets.{zeroFrom, holdsOnly}
-use Rattle.lines.specs.Put.{Room, Wrote}
+use Rattle.lines.specs.Steps.{Room, Wrote}
 
 sets-append : (l : List ℕ) (at : ℕ) (x y : List ℕ) → sets l at (x ++ y) ≡ sets (sets l at x) (at + length x) y
 sets-append l at [] y = ap (λ k. sets l k y) (sym (add-zero at))

@@ -1,4 +1,4 @@
--- What is claimed of the listing. Proved in proofs/Claimed.antt.
+-- What is claimed of the listing, besides each function's promise. `claims` in src/lib.rt promises all of it.
 use Prim.Native.Nat.{ℕ, _%_}
 use mathlib.Core.Path.{_≡_}
 use mathlib.Core.List.{List, [], _∷_, _++_}
@@ -7,9 +7,11 @@ use Rattle.lines.specs.Text.{text}
 use Rattle.lines.specs.Listing.{header, line, listed, listing}
 
 pub record Claims : Type 0 where
+  -- document 01's sample
   pub sample :
       listing (0x00 ∷ 0x00 ∷ 0x01 ∷ 0x20 ∷ 0x02 ∷ 0x03 ∷ 0x05 ∷ 0xFE ∷ 0x12 ∷ [])
       ≡ text "d blg roff br bs bo bt\n1 4 2 3 5 -2 2\n"
+  -- empty input prints the header line only
   pub empty : listing [] ≡ header
   -- a group that does not have nine octets, so a short last one
   pub short : (g : List ℕ) → (length g ≡ 9 → ⊥) → line g ≡ text "refused 1\n"

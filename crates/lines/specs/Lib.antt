@@ -1,4 +1,4 @@
 pub mod Text
 pub mod Listing
-pub mod Put
+pub mod Steps
 pub mod Claims

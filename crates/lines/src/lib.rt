@@ -1,21 +1,20 @@
-// Lists nine-octet groups: a line of text for each, put into lent memory.
+// Lists nine-octet groups: a line for each, put into a lent text.
 ghost use mathlib.Core.Path.{_≡_};
 ghost use mathlib.Core.Bool.{cond};
 ghost use mathlib.Core.List.{[], _∷_, _++_};
 ghost use Prim.Native.Nat.{_+_, _*_, _<_, _≤_};
 ghost use lib.IntN.{natAbs};
 ghost use lib.ListN.{length};
-ghost use Rattle.lines.specs.Text.{decimal, signed};
 ghost use Rattle.octets.specs.Octets.{holdsOnly};
+ghost use Rattle.lines.specs.Text.{decimal, signed};
 ghost use Rattle.lines.specs.Listing.{header, fields, refused, line, group, groups, listed, longest, told};
-ghost use Rattle.lines.specs.Put.{Room, Wrote, three, field};
+ghost use Rattle.lines.specs.Steps.{Room, Wrote, three, field};
 ghost use Rattle.lines.specs.Claims.{Claims};
 use codec::Block;
 
 // No line is longer: "134217727 31 255 13 255 -127 3" and its end.
 pub const LONGEST: usize = 31;
 
-// One octet: whatever is put goes through here.
 fn put(out: &mut [u8], at: usize, b: u8) -> usize
     requires { ⌜ Room (now out) at (b ∷ []) ⌝ }
     ensures { λ r. ⌜ Wrote (now (out .entry)) at (b ∷ []) r (now (out .exit)) ⌝ }
@@ -213,7 +212,7 @@ pub fn header() -> [u8; 23]
     *b"d blg roff br bs bo bt\n"
 }
 
-// Holds the claims in place: it is proved only with them.
+// What this crate claims over its promises.
 pub fn claims()
     ensures { λ _. ⌜ Claims ⌝ }
 {}

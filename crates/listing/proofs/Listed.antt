@@ -1,5 +1,4 @@
--- What `lines::list` promises, where there is room, and of a part of a larger text.
--- Assumes nothing.
+-- What `lines::list` promises, where there is room, and of a part of a larger text. Assumes nothing.
 use Prim.Native.Nat.{ℕ, _*_}
 use mathlib.Core.Path.{_≡_, ap, sym, _∙_}
 use mathlib.Core.List.{List, _++_}
@@ -9,7 +8,7 @@ use lib.ListN.{length, take, length-append}
 use lib.Seq.{take-append-seam, take-append-le}
 use Rattle.octets.specs.Octets.{holdsOnly}
 use Rattle.lines.specs.Listing.{groups, listed, longest, told}
-use Rattle.listing.specs.Turns.{Roomy, Lines}
+use Rattle.listing.specs.Steps.{Roomy, Lines}
 
 pub with-room : (s t : List ℕ) {t′ : List ℕ} {r : ℕ} → Roomy s t → r ≡ length (told s t) → t′ ≡ holdsOnly (length t) (told s t) → Lines s r t′
 with-room s t {t′} {r} room e f =

@@ -1,5 +1,4 @@
--- A run of octets that moves to the front of its list, one octet at a time.
--- Assumes nothing.
+-- A run of octets that moves to the front of its list, one octet at a time. Assumes nothing.
 use Prim.Native.Nat.{ℕ, _+_, _<_}
 use mathlib.Core.Path.{_≡_, ap, sym, _∙_}
 use mathlib.Core.List.{List}

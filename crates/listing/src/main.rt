@@ -2,7 +2,7 @@
 ghost use mathlib.Core.Path.{_≡_};
 ghost use Prim.Native.Nat.{_+_, _<_, _≤_};
 ghost use lib.ListN.{length, take, drop};
-ghost use Rattle.listing.specs.Turns.{Roomy, Lines, heldBy};
+ghost use Rattle.listing.specs.Steps.{Roomy, Lines, heldBy};
 use libc::STDIN_FILENO;
 use libc::STDOUT_FILENO;
 
@@ -20,8 +20,7 @@ enum Turn {
     WriteFailed,
 }
 
-// All lines of octets: the text has room for them.
-// Lends only the room that the lines may need, since all that is lent is wiped.
+// All lines of the octets. Only the room that they may need is lent, since all that is lent is wiped.
 fn list(octets: &[u8], text: &mut [u8]) -> usize
     requires { ⌜ Roomy (now octets) (now text) ⌝ }
     ensures { λ r. ⌜ Lines (now (octets .entry)) r (now (text .exit)) ⌝ }

@@ -1,4 +1,4 @@
-//! The listing against its peer. Times, not checks.
+//! The listing beside its peers, a plain program and a tuned one. Times, not checks.
 
 use std::fs::OpenOptions;
 use std::path::Path;
@@ -25,10 +25,13 @@ fn input() -> Vec<u8> {
     })
 }
 
+/// A program and its words.
+type Program<'a> = (&'a Path, &'a [&'a str]);
+
 /// Milliseconds from the program's start to its end.
-fn time(program: &Path, source: &Temp, output: Stdio) -> Result<f64, String> {
+fn time((program, words): Program, source: &Temp, output: Stdio) -> Result<f64, String> {
     let mut command = Command::new(program);
-    command.stdin(source.source()?).stdout(output);
+    command.args(words).stdin(source.source()?).stdout(output);
     let start = Instant::now();
     let status = command.status();
     let elapsed = start.elapsed().as_secs_f64() * 1e3;
@@ -44,15 +47,15 @@ fn median(mut times: Vec<f64>) -> f64 {
     times[times.len() / 2]
 }
 
-/// One row of the table: both programs by turns, so that a busy spell of the
-/// machine meets both.
+/// One row of the table: the programs by turns, so that a busy spell of the
+/// machine meets all of them.
 fn row(
     name: &str,
-    programs: [&Path; 2],
+    programs: [Program; 3],
     source: &Temp,
     output: impl Fn(usize) -> Result<Stdio, String>,
 ) -> Result<(), String> {
-    let mut times = [Vec::new(), Vec::new()];
+    let mut times = [Vec::new(), Vec::new(), Vec::new()];
     for run in 0..=RUNS {
         for (which, program) in programs.into_iter().enumerate() {
             let elapsed = time(program, source, output(which)?)?;
@@ -62,9 +65,12 @@ fn row(
             }
         }
     }
-    let [listing, peer] = times.map(median);
-    let ratio = listing / peer;
-    println!("{name:<10} {listing:>9.2} {peer:>9.2} {ratio:>16.2}");
+    let [listing, plain, tuned] = times.map(median);
+    println!(
+        "{name:<10} {listing:>9.2} {plain:>9.2} {tuned:>9.2} {:>16.2} {:>16.2}",
+        listing / plain,
+        listing / tuned
+    );
     Ok(())
 }
 
@@ -72,20 +78,24 @@ fn table(listing: &Path, peer: &Path) -> Result<(), String> {
     let source = Temp::holding("bench-groups", &input())?;
     let sinks = [
         Temp::holding("bench-listing", &[])?,
-        Temp::holding("bench-peer", &[])?,
+        Temp::holding("bench-plain", &[])?,
+        Temp::holding("bench-tuned", &[])?,
     ];
+    let programs: [Program; 3] = [(listing, &[]), (peer, &["plain"]), (peer, &["tuned"])];
     println!("{GROUPS} groups, median of {RUNS} runs each, in ms");
     println!(
-        "{:<10} {:>9} {:>9} {:>16}",
-        "output", "listing", "peer", "listing / peer"
+        "{:<10} {:>9} {:>9} {:>9} {:>16} {:>16}",
+        "output", "listing", "plain", "tuned", "listing / plain", "listing / tuned"
     );
-    row("file", [listing, peer], &source, |which| {
+    row("file", programs, &source, |which| {
         Ok(sinks[which].sink()?.into())
     })?;
-    if sinks[0].content()? != sinks[1].content()? {
-        return Err("the outputs differ".to_string());
+    for sink in &sinks[1..] {
+        if sinks[0].content()? != sink.content()? {
+            return Err("the outputs differ".to_string());
+        }
     }
-    row("/dev/null", [listing, peer], &source, |_| {
+    row("/dev/null", programs, &source, |_| {
         let null = OpenOptions::new().write(true).open("/dev/null");
         Ok(null.map_err(|error| format!("/dev/null: {error}"))?.into())
     })

@@ -1,5 +1,4 @@
--- `codec::bad_list` meets its contract: the tests are the definition's, in its order.
--- Assumes nothing.
+-- `codec::bad_list` meets its contract: the tests are the definition's, in its order. Assumes nothing.
 use borrow.Author.Tests.{eq-eqb, ne-eqb}
 use borrow.Author.Needs.{needs}
 use Rattle.codec.specs.Rates.{badList}

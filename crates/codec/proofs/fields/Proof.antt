@@ -1,5 +1,4 @@
--- `codec::fields` meets its contract: an octet's bits 8-4 are what is left of it by 8; the offset's bits stand for it.
--- Assumes nothing.
+-- `codec::fields` meets its contract: an octet's bits 8-4 are what is left of it by 8; the offset's bits stand for it. Assumes nothing.
 use Prim.Native.Nat.{_/_}
 use mathlib.Core.Path.{_≡_}
 use native.Mathlib.Nat.{div-one}

@@ -1,5 +1,4 @@
--- `codec::judge_block` meets its contract: each `return` rewrites by the tests that led there.
--- Assumes nothing.
+-- `codec::judge_block` meets its contract: each `return` rewrites by the tests that led there. Assumes nothing.
 use mathlib.Core.Path.{_∙_}
 use borrow.Author.Tests.{le-leb, lt-leb}
 use borrow.Author.Needs.{needs}

@@ -1,5 +1,4 @@
--- `codec::judge_fields` meets its contract: each `return` rewrites by the tests that led there.
--- Assumes nothing.
+-- `codec::judge_fields` meets its contract: each `return` rewrites by the tests that led there. Assumes nothing.
 use mathlib.Core.Path.{_≡_, sym, _∙_}
 use mathlib.Core.Bool.{false}
 use mir.Syntax.{w32}

@@ -1,5 +1,4 @@
--- `codec::read` meets its contract: each answer by the law for its refusal.
--- Assumes nothing.
+-- `codec::read` meets its contract: each answer by the law for its refusal. Assumes nothing.
 use mathlib.Core.Path.{_≡_, sym, _∙_, ap}
 use native.Mathlib.Omega.{arith}
 use denote.Ref.{now}

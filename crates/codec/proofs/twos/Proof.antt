@@ -1,5 +1,4 @@
--- `codec::twos` meets its contract: below 0 the number and 256 make the octet's number, else it is the octet's number.
--- Assumes nothing.
+-- `codec::twos` meets its contract: below 0 the number and 256 make the octet's number, else it is the octet's number. Assumes nothing.
 use mathlib.Core.Path.{_≡_}
 use lib.IntN.{pos, _+ℤ_}
 use mir.Syntax.{w32}

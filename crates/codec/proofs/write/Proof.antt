@@ -1,5 +1,4 @@
--- `codec::write` meets its contract: each answer by the law for its refusal; what is not refused fits.
--- Assumes nothing.
+-- `codec::write` meets its contract: each answer by the law for its refusal; what is not refused fits. Assumes nothing.
 use mathlib.Core.Path.{sym, _∙_}
 use borrow.Author.Needs.{needs}
 use Rattle.octets.proofs.Refusals.{answer-refused, answer-accepted}

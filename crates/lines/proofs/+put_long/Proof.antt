@@ -1,5 +1,4 @@
--- `lines::put_long` meets its contract, by recursion on n / 1000: the digits of that, and then three more. The measure is n.
--- Assumes nothing.
+-- `lines::put_long` meets its contract, by recursion on n / 1000: the digits of that, and then three more. The measure is n. Assumes nothing.
 use Prim.Native.Nat.{ℕ, _/_, _%_, _<_}
 use mathlib.Core.Path.{_≡_}
 use mathlib.Core.List.{_++_}
@@ -8,7 +7,7 @@ use borrow.Author.Needs.{needs}
 use borrow.Fn.Kinds.{In}
 use borrow.Fn.PlainCycle.{Measures, is, falls, and}
 use Rattle.lines.specs.Text.{decimal}
-use Rattle.lines.specs.Put.{three}
+use Rattle.lines.specs.Steps.{three}
 use Rattle.lines.proofs.Decimal.{decimal-thousand}
 use Rattle.lines.proofs.Wrote.{and-then, room-first, room-then}
 use Rattle.lines.proofs.put_small.Reads as put-small

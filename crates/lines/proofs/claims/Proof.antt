@@ -1,5 +1,4 @@
--- `lines::claims` meets its contract: the claims are proved in proofs/Claimed.antt.
--- Assumes nothing.
+-- `lines::claims` meets its contract: the claims are proved in proofs/Claimed.antt. Assumes nothing.
 use Rattle.lines.proofs.Claimed.{claimed}
 use Rattle.lines.proofs.claims.Statement.{statement}
 use Rattle.lines.proofs.claims.Tie as tie

@@ -1,5 +1,4 @@
--- `lines::group_of` meets its contract: what is left is taken whole where it is less than nine octets.
--- Assumes nothing.
+-- `lines::group_of` meets its contract: what is left is taken whole where it is less than nine octets. Assumes nothing.
 use Prim.Native.Nat.{_+_, _-_, _*_}
 use mathlib.Core.Path.{_≡_, sym, _∙_}
 use native.Mathlib.Omega.{arith}

@@ -1,5 +1,4 @@
--- `lines::magnitude` meets its contract: -1 - z is one less than z's size where z is below 0, and z its own size elsewhere.
--- Assumes nothing.
+-- `lines::magnitude` meets its contract: -1 - z is one less than z's size where z is below 0, and z its own size elsewhere. Assumes nothing.
 use mathlib.Core.Bool.{true}
 use mathlib.Core.Path.{_≡_}
 use native.Mathlib.Omega.{arith}

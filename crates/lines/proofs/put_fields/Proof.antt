@@ -12,7 +12,7 @@ use mir.Facts.{toZ-ofZ}
 use Rattle.codec.specs.declared.Block.{Block}
 use Rattle.lines.specs.Text.{signed}
 use Rattle.lines.specs.Listing.{fields}
-use Rattle.lines.specs.Put.{field}
+use Rattle.lines.specs.Steps.{field}
 use Rattle.lines.proofs.Wrote.{and-then, length-wrote}
 use borrow.Author.Needs.{needs}
 use Rattle.lines.proofs.put_fields.Statement.{statement}

@@ -4,7 +4,7 @@ use mathlib.Core.Path.{_≡_, refl}
 use native.Mathlib.Omega.{arith}
 use denote.Ref.{now}
 use Rattle.lines.specs.Listing.{groups, lines, longest}
-use Rattle.lines.specs.Put.{Wrote}
+use Rattle.lines.specs.Steps.{Wrote}
 use Rattle.lines.proofs.Lines.{lines-next}
 use Rattle.lines.proofs.Wrote.{and-then, length-wrote}
 use Rattle.lines.proofs.put_lines.Statement.{statement}

@@ -1,6 +1,6 @@
 -- `lines::put_refused` meets its contract: the word, and then the number. Assumes nothing.
 use Rattle.lines.specs.Listing.{refused}
-use Rattle.lines.specs.Put.{field}
+use Rattle.lines.specs.Steps.{field}
 use Rattle.lines.proofs.Wrote.{and-then, room-first, room-then}
 use borrow.Author.Needs.{needs}
 use Rattle.lines.proofs.put_refused.Statement.{statement}

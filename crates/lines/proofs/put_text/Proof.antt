@@ -1,11 +1,10 @@
--- `lines::put_text` meets its contract. The invariant: the first i octets are put, and `to` is the place after them. The measure is what is left of them.
--- Assumes nothing.
+-- `lines::put_text` meets its contract. The invariant: the first i octets are put, and `to` is the place after them. The measure is what is left of them. Assumes nothing.
 use Prim.Native.Nat.{_-_, _≤_}
 use mathlib.Core.Path.{refl}
 use native.Mathlib.Omega.{arith}
 use denote.Ref.{now}
 use lib.ListN.{length, take}
-use Rattle.lines.specs.Put.{Wrote}
+use Rattle.lines.specs.Steps.{Wrote}
 use Rattle.lines.proofs.Wrote.{length-wrote, room-next, text-next, text-whole}
 use Rattle.lines.proofs.put_text.Statement.{statement}
 use Rattle.lines.proofs.put_text.Tie as tie

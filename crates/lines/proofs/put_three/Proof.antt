@@ -1,5 +1,4 @@
--- `lines::put_three` meets its contract: three octets one after another, each a digit.
--- Assumes nothing.
+-- `lines::put_three` meets its contract: three octets one after another, each a digit. Assumes nothing.
 use borrow.Author.Needs.{needs}
 use Rattle.lines.proofs.Wrote.{and-then}
 use Rattle.lines.proofs.put_three.Statement.{statement}

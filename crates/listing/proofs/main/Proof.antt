@@ -1,5 +1,4 @@
--- `listing::main` is safe: the text has room for the lines of the whole buffer.
--- Assumes nothing.
+-- `listing::main` is safe: the text has room for the lines of the whole buffer. Assumes nothing.
 use native.Mathlib.Omega.{arith}
 use borrow.Author.Needs.{needs}
 use lib.ListN.{length-replicate}

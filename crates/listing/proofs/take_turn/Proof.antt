@@ -1,5 +1,4 @@
--- `listing::take_turn` meets its contract: what is left of whole groups is less than nine octets, and the lines of a part of the buffer have room where those of all of it have.
--- Assumes nothing.
+-- `listing::take_turn` meets its contract: what is left of whole groups is less than nine octets, and the lines of a part of the buffer have room where those of all of it have. Assumes nothing.
 use native.Mathlib.Omega.{arith}
 use borrow.Author.Needs.{needs}
 use lib.ListN.{length-take}

@@ -1,5 +1,7 @@
-//! The peer for the benchmark: the listing as one would write it by hand for
-//! speed. It meets the same checks as the listing and uses the same words.
+//! The peers for the benchmark: the listing as one would write it by hand,
+//! `peer plain` digit by digit as usual, `peer tuned` for speed alone, from
+//! tables of whole numbers. Both meet the same checks as the listing and use
+//! the same words.
 
 use std::fs::File;
 use std::io::{self, ErrorKind, Read, Write};
@@ -121,29 +123,82 @@ fn put_refusal(lines: &mut Lines, at: usize, number: u8) -> usize {
     at + 10
 }
 
+/// The refusal that a group calls for, 0 for none.
+#[inline(always)]
+fn refusal(group: &[u8; GROUP]) -> u8 {
+    let &[_, _, _, _, roff, o6, bs, bo, o9] = group;
+    if o9 >> 3 != 0b00010 {
+        2
+    } else if matches!(o6 & 15, 7 | 14 | 15) {
+        3
+    } else if roff < 2 {
+        4
+    } else if bs < 2 {
+        5
+    } else if bo == 0x80 {
+        6
+    } else {
+        0
+    }
+}
+
+#[inline(always)]
+fn address(group: &[u8; GROUP]) -> u32 {
+    u32::from_be_bytes([group[3] & 7, group[0], group[1], group[2]])
+}
+
+/// A number's digits, found from the last one on, and then an octet.
+#[inline(always)]
+fn put_number(lines: &mut Lines, at: usize, number: u32, after: u8) -> usize {
+    let mut digits = [0; 10];
+    let mut first = digits.len();
+    let mut rest = number;
+    loop {
+        first -= 1;
+        digits[first] = b'0' + (rest % 10) as u8;
+        rest /= 10;
+        if rest == 0 {
+            break;
+        }
+    }
+    let end = at + digits.len() - first;
+    lines[at..end].copy_from_slice(&digits[first..]);
+    lines[end] = after;
+    end + 1
+}
+
 /// Puts a group's line at a place and returns the place after it.
 #[inline(always)]
-fn put_group(lines: &mut Lines, at: usize, group: &[u8; GROUP]) -> usize {
+fn put_plain(lines: &mut Lines, at: usize, group: &[u8; GROUP]) -> usize {
+    let number = refusal(group);
+    if number != 0 {
+        return put_refusal(lines, at, number);
+    }
+    let &[_, _, _, o4, roff, o6, bs, bo, o9] = group;
+    let mut at = put_number(lines, at, address(group), b' ');
+    for field in [o4 >> 3, roff, o6 & 15, bs] {
+        at = put_number(lines, at, field.into(), b' ');
+    }
+    let bo = bo as i8;
+    if bo < 0 {
+        lines[at] = b'-';
+        at += 1;
+    }
+    at = put_number(lines, at, bo.unsigned_abs().into(), b' ');
+    put_number(lines, at, (o9 & 3).into(), b'\n')
+}
+
+/// The same line from the tables.
+#[inline(always)]
+fn put_tuned(lines: &mut Lines, at: usize, group: &[u8; GROUP]) -> usize {
     // Never fails. With it the compiler drops the checks of the stores.
     assert!(at <= ROOM - LINE_ROOM);
-    let &[d24_17, d16_9, d8_1, o4, roff, o6, bs, bo, o9] = group;
-    let br = o6 & 15;
-    if o9 >> 3 != 0b00010 {
-        return put_refusal(lines, at, 2);
+    let number = refusal(group);
+    if number != 0 {
+        return put_refusal(lines, at, number);
     }
-    if matches!(br, 7 | 14 | 15) {
-        return put_refusal(lines, at, 3);
-    }
-    if roff < 2 {
-        return put_refusal(lines, at, 4);
-    }
-    if bs < 2 {
-        return put_refusal(lines, at, 5);
-    }
-    if bo == 0x80 {
-        return put_refusal(lines, at, 6);
-    }
-    let d = u32::from_be_bytes([o4 & 7, d24_17, d16_9, d8_1]);
+    let &[_, _, _, o4, roff, o6, bs, bo, o9] = group;
+    let d = address(group);
     // Three digits at a time; a step back takes the space off again.
     let mut at = at;
     if d >= 1_000_000 {
@@ -158,7 +213,7 @@ fn put_group(lines: &mut Lines, at: usize, group: &[u8; GROUP]) -> usize {
     }
     at = put(lines, at, NUMBERS[(o4 >> 3) as usize]);
     at = put(lines, at, NUMBERS[roff as usize]);
-    at = put(lines, at, NUMBERS[br as usize]);
+    at = put(lines, at, NUMBERS[(o6 & 15) as usize]);
     at = put(lines, at, NUMBERS[bs as usize]);
     put(lines, at, ENDS[bo as usize][(o9 & 3) as usize])
 }
@@ -169,7 +224,11 @@ enum Failure {
     Output(io::Error),
 }
 
-fn list(input: &mut File, output: &mut File) -> Result<(), Failure> {
+fn list(
+    input: &mut File,
+    output: &mut File,
+    put_group: impl Fn(&mut Lines, usize, &[u8; GROUP]) -> usize,
+) -> Result<(), Failure> {
     let mut octets = [0; HELD];
     let mut kept = 0;
     let mut lines = Box::new([0; ROOM]);
@@ -209,11 +268,16 @@ fn raw(stream: impl AsFd) -> io::Result<File> {
 }
 
 fn main() -> ExitCode {
+    let tuned = std::env::args().nth(1).as_deref() == Some("tuned");
     let done = raw(io::stdin())
         .map_err(Failure::Input)
         .and_then(|mut input| {
             let mut output = raw(io::stdout()).map_err(Failure::Output)?;
-            list(&mut input, &mut output)
+            if tuned {
+                list(&mut input, &mut output, put_tuned)
+            } else {
+                list(&mut input, &mut output, put_plain)
+            }
         });
     match done {
         Ok(()) => return ExitCode::SUCCESS,

@@ -1,4 +1,4 @@
--- What the private functions say that put a text into memory. No public promise cites this.
+-- What the private functions ask and promise: a text put into memory. Nothing that a caller of the crate has to believe.
 use Prim.Native.Nat.{ℕ, _+_, _/_, _%_, _≤_}
 use mathlib.Core.Path.{_≡_}
 use mathlib.Core.List.{List, [], _∷_, _++_}
