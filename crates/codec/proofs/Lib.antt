@@ -3,4 +3,3 @@ pub mod Complement
 pub mod Tests
 pub mod RoundTrips
 pub mod Rates
-pub mod Figures

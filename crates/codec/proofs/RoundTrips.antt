@@ -1,10 +1,9 @@
 -- Reading and writing undo each other but for the reserved bits. Assumes nothing.
-use Prim.Native.Nat.{ℕ, _+_, _*_, _/_, _%_, _<_, _≤_}
+use Prim.Native.Nat.{ℕ, _+_, _*_, _/_, _%_, _<_}
 use mathlib.Core.Path.{_≡_, refl, sym, _∙_, ap}
 use mathlib.Core.List.{List}
 use native.Mathlib.Omega.{arith}
 use native.Mathlib.Nat.{div-div-eq-div-mul, div-one}
-use lib.ListN.{getD}
 use Rattle.octets.specs.Octets.{Bytes}
 use Rattle.octets.specs.Refusals.{firstOf}
 use Rattle.octets.proofs.Refusals.{answer-accepted, answer-zero}

@@ -6,7 +6,6 @@ use lib.IntN.{ℤ, pos, negsuc}
 use Rattle.octets.specs.Octets.{Bytes}
 use Rattle.codec.specs.declared.Block.{Block}
 use Rattle.codec.specs.declared.Reading.{Reading}
-use Rattle.codec.specs.declared.Writing.{Writing}
 use Rattle.codec.specs.NineOctets.{octet, bits, reading, refusedReading, writing}
 
 -- reading what was written gives the same fields

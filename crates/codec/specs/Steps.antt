@@ -1,5 +1,5 @@
 -- What a private function asks: the code's own step. Nothing that a caller of the crate has to believe.
-use Prim.Native.Nat.{ℕ, _≤_, _<_}
+use Prim.Native.Nat.{_≤_, _<_}
 use mathlib.Core.Path.{_≡_}
 use mathlib.Core.Bool.{false}
 use Rattle.codec.specs.declared.Block.{Block}

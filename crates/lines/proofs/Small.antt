@@ -1,15 +1,15 @@
 -- A number below 1000, digit by digit, each zero in front of it overwritten by the next digit. Assumes nothing.
-use Prim.Native.Nat.{ℕ, suc, _+_, _/_, _%_, _≤_, _<_}
-use mathlib.Core.Path.{_≡_, refl, _∙_}
+use Prim.Native.Nat.{ℕ, _+_, _/_, _%_, _<_}
+use mathlib.Core.Path.{_≡_, refl}
 use mathlib.Core.Bool.{Bool, true, false, cond}
-use mathlib.Core.List.{List, [], _∷_}
+use mathlib.Core.List.{List}
 use native.Mathlib.Nat.{add-zero}
 use native.Mathlib.Numerals.{add-one}
 use native.Mathlib.Omega.{arith}
 use borrow.Author.Tests.{ltb-true, ltb-false}
 use lib.Dec.{ltb}
-use lib.ListN.{length, set}
-use lib.Seq.{sets, set-set}
+use lib.ListN.{set}
+use lib.Seq.{set-set}
 use Rattle.lines.specs.Text.{decimal}
 use Rattle.lines.specs.Steps.{Wrote}
 use Rattle.lines.proofs.Decimal.{decimal-one, decimal-two, decimal-three}

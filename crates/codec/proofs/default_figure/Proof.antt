@@ -1,5 +1,5 @@
 -- `codec::default_figure` meets its contract: the answer by its refusal. Assumes nothing.
-use mathlib.Core.Path.{_≡_, refl, sym, _∙_}
+use mathlib.Core.Path.{_∙_}
 use native.Mathlib.Omega.{arith}
 use Rattle.octets.proofs.Refusals.{answer-refused, answer-accepted}
 use borrow.Author.Needs.{needs}

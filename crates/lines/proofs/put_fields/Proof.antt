@@ -13,7 +13,7 @@ use Rattle.codec.specs.declared.Block.{Block}
 use Rattle.lines.specs.Text.{signed}
 use Rattle.lines.specs.Listing.{fields}
 use Rattle.lines.specs.Steps.{field}
-use Rattle.lines.proofs.Wrote.{and-then, length-wrote}
+use Rattle.lines.proofs.Wrote.{and-then}
 use borrow.Author.Needs.{needs}
 use Rattle.lines.proofs.put_fields.Statement.{statement}
 use Rattle.lines.proofs.put_fields.Tie as tie

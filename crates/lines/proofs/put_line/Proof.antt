@@ -5,7 +5,6 @@ use native.Mathlib.Omega.{arith}
 use denote.Ref.{now}
 use lib.ListN.{length}
 use Rattle.codec.specs.declared.Reading.{Reading}
-use Rattle.codec.specs.NineOctets.{reading}
 use Rattle.codec.specs.Steps.{Fitting}
 use Rattle.codec.proofs.Tests.{read-fitting}
 use Rattle.lines.specs.Listing.{fields, refused, longest}

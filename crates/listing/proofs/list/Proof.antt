@@ -1,5 +1,5 @@
 -- `listing::list` meets its contract: what `lines::list` promises, where there is room, of the part that is lent. Assumes nothing.
-use Prim.Native.Nat.{_+_, _*_, _/_, _≤_}
+use Prim.Native.Nat.{_+_, _*_, _/_}
 use mathlib.Core.Path.{sym}
 use native.Mathlib.Omega.{arith}
 use denote.Ref.{now}
