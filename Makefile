@@ -1,6 +1,6 @@
 # make demo   list the sample bursts
 # make test   everything that must hold, as the gate runs it; its last line is 'N passed, M failed'
-# make bench  the listing beside a plain Rust program, in one run
+# make bench  the listing beside a plain and a tuned Rust program, in one run
 
 second := target/second/release
 build-second := cargo build --quiet --release --offline --manifest-path tests/second/Cargo.toml --target-dir target/second

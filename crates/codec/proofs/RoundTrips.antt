@@ -4,17 +4,17 @@ use mathlib.Core.Path.{_≡_, refl, sym, _∙_, ap}
 use mathlib.Core.List.{List}
 use native.Mathlib.Omega.{arith}
 use native.Mathlib.Nat.{div-div-eq-div-mul, div-one}
-use Rattle.octets.specs.Octets.{Bytes}
+use Rattle.octets.specs.Octets.{AreOctets}
 use Rattle.octets.specs.Refusals.{firstOf}
-use Rattle.octets.proofs.Refusals.{answer-accepted, answer-zero}
+use Rattle.octets.proofs.Refusals.{answer-accepted}
 use Rattle.codec.specs.declared.Block.{Block}
 use Rattle.codec.specs.declared.Reading.{Reading}
 use Rattle.codec.specs.declared.Writing.{Writing}
-use Rattle.codec.specs.NineOctets.{octet, bits, octetsOf, blockOf, fieldTests, readTests, writeTests, reading, refusedReading, writing, refusedWriting}
+use Rattle.codec.specs.NineOctets.{octet, bits, octetsOf, blockOf, fieldTests, reading, refusedReading, writing, refusedWriting}
 use Rattle.codec.specs.Claims.{WrittenIsRead, ReadIsWritten, cleared}
 use Rattle.codec.proofs.Complement.{signed-twos, twos-signed}
 use Rattle.codec.specs.Steps.{Fitting}
-use Rattle.codec.proofs.Tests.{write-passed, write-fields, read-fields, read-passed, block-fitting}
+use Rattle.codec.proofs.Tests.{reading-refusal, writing-refusal, write-passed, write-fields, read-fields, read-passed, block-fitting}
 
 -- ---- reading what was written
 
@@ -36,7 +36,7 @@ same-fields b r =
 
 pub written-is-read : WrittenIsRead
 written-is-read b h =
-    let w : 0 ≡ firstOf (writeTests b) = answer-zero _ refusedWriting (λ (x : Writing). x .refusal) (λ n. refl) (firstOf (writeTests b)) h in
+    let w = sym h ∙ writing-refusal b in
     let p = write-passed b (sym w) in
     let r = p .0 in
     let id : bits 8 4 (16 + b .bt) ≡ 2 = omega arith in
@@ -52,14 +52,14 @@ written-is-read b h =
 octet-bits : (o : ℕ) → o < 256 → bits 8 4 o * 8 + bits 3 1 o % 8 ≡ o
 octet-bits o h = rw (div-one o) (omega arith)
 
-module _ (s : List ℕ) (byte : Bytes s) where
+module _ (s : List ℕ) (are : AreOctets s) where
   same-octets : bits 8 4 (octet 9 s) ≡ 2 → octetsOf (blockOf s) ≡ cleared s
   same-octets id =
-      let b1 = byte 0 in
-      let b2 = byte 1 in
-      let b3 = byte 2 in
-      let b4 = byte 3 in
-      let b9 = byte 8 in
+      let b1 = are 0 in
+      let b2 = are 1 in
+      let b3 = are 2 in
+      let b4 = are 3 in
+      let b9 = are 8 in
       let d = blockOf s .d in
       let e1 : bits 24 17 d ≡ octet 1 s = omega arith in
       let e2 : bits 16 9 d ≡ octet 2 s = omega arith in
@@ -67,14 +67,14 @@ module _ (s : List ℕ) (byte : Bytes s) where
       let high : d / 16777216 ≡ bits 3 1 (octet 4 s) = omega arith in
       let e4 : bits 8 4 (octet 4 s) * 8 + bits 27 25 d ≡ octet 4 s = rw high (octet-bits (octet 4 s) b4) in
       let e9 : 16 + bits 2 1 (octet 9 s) ≡ bits 8 4 (octet 9 s) * 8 + bits 2 1 (octet 9 s) = omega arith in
-      rw (e1, e2, e3, e4, e9, twos-signed (octet 8 s) (byte 7))
+      rw (e1, e2, e3, e4, e9, twos-signed (octet 8 s) (are 7))
 
 pub read-is-written : ReadIsWritten
-read-is-written s byte h =
-    let r : 0 ≡ firstOf (readTests s) = answer-zero _ refusedReading (λ (x : Reading). x .refusal) (λ n. refl) (firstOf (readTests s)) h in
+read-is-written s are h =
+    let r = sym h ∙ reading-refusal s in
     let p = read-passed s (sym r) in
-    let f = block-fitting s byte (p .2) in
+    let f = block-fitting s are (p .2) in
     let w = write-fields (blockOf s) (f .d-low) (f .blg-low) (f .bt-low) in
     ap (λ (x : Reading). writing (x .block)) (sym (answer-accepted _ refusedReading r))
     ∙ sym (answer-accepted (record { refusal = 0; octets = octetsOf (blockOf s) }) refusedWriting (sym (p .2) ∙ w))
-    ∙ ap (λ (l : List ℕ). record { refusal = 0; octets = l }) (same-octets s byte (p .1))
+    ∙ ap (λ (l : List ℕ). record { refusal = 0; octets = l }) (same-octets s are (p .1))

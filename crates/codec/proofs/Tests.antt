@@ -1,18 +1,19 @@
 -- What the tests of reading and writing tell of the fields. Assumes nothing.
 use Prim.Native.Nat.{ℕ, _≤_, _<_, _^_}
-use mathlib.Core.Path.{_≡_, refl, sym, subst}
+use mathlib.Core.Path.{_≡_, refl, sym, _∙_, subst}
 use mathlib.Core.Bool.{Bool, not, _||_}
 use mathlib.Core.List.{List, _∷_}
 use native.Mathlib.Omega.{arith}
 use borrow.Author.Tests.{eq-eqb, ne-eqb, lt-leb, le-ltb, leb-false, ltb-false, eqb-true, not-false}
 use lib.Dec.{eqb, leb, ltb}
 use lib.ListN.{length}
-use Rattle.octets.specs.Octets.{Bytes}
+use Rattle.octets.specs.Octets.{AreOctets}
 use Rattle.octets.specs.Refusals.{firstOf}
-use Rattle.octets.proofs.Refusals.{firstOf-cons, firstOf-zero, answer-accepted, answer-zero, or-false, outside-false}
+use Rattle.octets.proofs.Refusals.{firstOf-cons, firstOf-zero, firstOf-most, answer-accepted, answer-says, or-false, outside-false}
 use Rattle.codec.specs.declared.Block.{Block}
 use Rattle.codec.specs.declared.Reading.{Reading}
-use Rattle.codec.specs.NineOctets.{octet, bits, blockOf, fieldTests, readTests, writeTests, reading, refusedReading}
+use Rattle.codec.specs.declared.Writing.{Writing}
+use Rattle.codec.specs.NineOctets.{octet, bits, blockOf, fieldTests, readTests, writeTests, reading, refusedReading, writing, refusedWriting}
 use Rattle.codec.specs.Steps.{Fitting}
 
 -- ---- the refusal by the tests that led to it
@@ -33,6 +34,18 @@ module _ (s : List ℕ) where
 pub write-fields : (b : Block) → b .d < 2 ^ 27 → b .blg ≤ 31 → b .bt ≤ 3 → firstOf (fieldTests b) ≡ firstOf (writeTests b)
 unfolding writeTests
 write-fields b d blg bt = simp (lt-leb _ _ d, le-ltb _ _ blg, le-ltb _ _ bt)
+
+-- ---- the refusal that an answer says
+
+pub reading-refusal : (s : List ℕ) → reading s .refusal ≡ firstOf (readTests s)
+reading-refusal s = answer-says _ refusedReading (λ (x : Reading). x .refusal) refl (λ n. refl) (firstOf (readTests s))
+
+pub reading-refusal-most : (s : List ℕ) → reading s .refusal ≤ 6
+unfolding readTests fieldTests
+reading-refusal-most s = rw (reading-refusal s) (firstOf-most 6 (readTests s) refl)
+
+pub writing-refusal : (b : Block) → writing b .refusal ≡ firstOf (writeTests b)
+writing-refusal b = answer-says _ refusedWriting (λ (x : Writing). x .refusal) refl (λ n. refl) (firstOf (writeTests b))
 
 -- ---- what is not refused
 
@@ -66,21 +79,21 @@ read-passed s h =
     (eqb-true _ _ (not-false _ (p1 .0)), eqb-true _ _ (not-false _ (p2 .0)), p2 .2)
 
 -- the fields of octets fit again
-pub block-fitting : (s : List ℕ) → Bytes s → firstOf (fieldTests (blockOf s)) ≡ 0 → Fitting (blockOf s)
+pub block-fitting : (s : List ℕ) → AreOctets s → firstOf (fieldTests (blockOf s)) ≡ 0 → Fitting (blockOf s)
 unfolding fieldTests
-block-fitting s byte h =
+block-fitting s are h =
     record {
-      d-low = omega (arith, byte 0, byte 1, byte 2);
+      d-low = omega (arith, are 0, are 1, are 2);
       blg-low = omega arith;
-      roff-low = omega (arith, byte 4);
+      roff-low = omega (arith, are 4);
       br-low = omega arith;
-      bs-low = omega (arith, byte 6);
+      bs-low = omega (arith, are 6);
       bo-in = firstOf-zero (fieldTests (blockOf s)) refl h .1 .1 .1 .0;
       bt-low = omega arith;
     }
 
 -- and so do those of an accepted reading
-pub read-fitting : (s : List ℕ) → Bytes s → reading s .refusal ≡ 0 → Fitting (reading s .block)
-read-fitting s byte h =
-    let r = answer-zero _ refusedReading (λ (x : Reading). x .refusal) (λ n. refl) (firstOf (readTests s)) h in
-    subst (λ (x : Reading). Fitting (x .block)) (answer-accepted _ refusedReading r) (block-fitting s byte (read-passed s (sym r) .2))
+pub read-fitting : (s : List ℕ) → AreOctets s → reading s .refusal ≡ 0 → Fitting (reading s .block)
+read-fitting s are h =
+    let r = sym h ∙ reading-refusal s in
+    subst (λ (x : Reading). Fitting (x .block)) (answer-accepted _ refusedReading r) (block-fitting s are (read-passed s (sym r) .2))

@@ -16,6 +16,10 @@ parameters =
     ∷ (1 ∷ 65536 ∷ 160 ∷ 1 ∷ [])
     ∷ []
 
+-- a parameter number not 1..3
+abbrev pub unknown : ℕ → Bool
+unknown number = outside 1 3 number
+
 -- the row of a parameter's number, and its four columns
 abbrev pub rowOf : ℕ → List ℕ
 rowOf number = getD parameters (number - 1) []
@@ -40,8 +44,8 @@ fits number figure =
 
 -- what a parameter check is refused for: 22, 10
 unfoldable pub parameterTests : ℕ → ℕ → List (ℕ × Bool)
-parameterTests number figure = (22, outside 1 3 number) ∷ (10, not (fits number figure)) ∷ []
+parameterTests number figure = (22, unknown number) ∷ (10, not (fits number figure)) ∷ []
 
 -- the default of a parameter's row
 abbrev pub defaultFound : ℕ → Found
-defaultFound number = answer (firstOf ((22, outside 1 3 number) ∷ [])) (record { refusal = 0; number = default number }) refusedFound
+defaultFound number = answer (firstOf ((22, unknown number) ∷ [])) (record { refusal = 0; number = default number }) refusedFound

@@ -2,13 +2,13 @@
 ghost use mathlib.Core.Path.{_≡_};
 ghost use mathlib.Core.Bool.{false};
 ghost use mathlib.Core.List.{[], _∷_};
+ghost use lib.Dec.{leb};
 ghost use lib.ListN.{length};
 ghost use Rattle.octets.specs.Lists.{every};
-ghost use Rattle.octets.specs.Refusals.{firstOf, outside};
-ghost use lib.Dec.{leb};
+ghost use Rattle.octets.specs.Refusals.{firstOf};
 ghost use Rattle.codec.specs.NineOctets.{bits, signedOf, twosOf, badOffset, badCode, fieldTests, writeTests, blockOf, octetsOf, reading, refusedReading, writing};
 ghost use Rattle.codec.specs.Rates.{badList, rateFound, refusedFound};
-ghost use Rattle.codec.specs.Parameters.{rowOf, parameterTests, defaultFound};
+ghost use Rattle.codec.specs.Parameters.{unknown, rowOf, parameterTests, defaultFound};
 ghost use Rattle.codec.specs.Claims.{Claims};
 ghost use Rattle.codec.specs.Steps.{Fitting};
 
@@ -285,7 +285,7 @@ const PARAMETERS: [[u32; 4]; 3] = [[60, 15360, 4500, 60], [1, 256, 2, 1], [1, 65
 
 // The row of a parameter.
 fn row(number: u32) -> [u32; 4]
-    requires { ⌜ outside 1 3 number ≡ false ⌝ }
+    requires { ⌜ unknown number ≡ false ⌝ }
     ensures { λ r. ⌜ r ≡ rowOf number ⌝ }
 {
     PARAMETERS[(number - 1) as usize]

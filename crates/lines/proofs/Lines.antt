@@ -1,19 +1,21 @@
 -- Laws of a group's line, and of the lines of several groups. Assumes nothing.
-use Prim.Native.Nat.{ℕ, suc, _+_, _^_, _≤_, _<_}
-use mathlib.Core.Path.{_≡_}
-use mathlib.Core.Bool.{false}
+use Prim.Native.Nat.{ℕ, suc, _+_, _≤_}
+use mathlib.Core.Path.{_≡_, refl, sym}
+use mathlib.Core.Bool.{Bool, true, false}
 use mathlib.Core.List.{List, _++_}
 use native.Mathlib.Numerals.{add-one}
 use native.Mathlib.Omega.{arith}
-use borrow.Author.Tests.{eq-eqb, ne-eqb, ltb-false}
-use lib.Dec.{ltb}
+use borrow.Author.Tests.{ltb-false, eqb-true, eqb-false}
+use lib.Dec.{ltb, eqb}
 use lib.IntN.{ℤ, pos, negsuc}
 use lib.ListN.{length, length-append}
-use Rattle.octets.proofs.Refusals.{or-false}
+use Rattle.octets.specs.Octets.{AreOctets}
+use Rattle.octets.proofs.Refusals.{answer-accepted, answer-refused, or-false}
 use Rattle.codec.specs.declared.Block.{Block}
 use Rattle.codec.specs.Steps.{Fitting}
 use Rattle.codec.specs.declared.Reading.{Reading}
 use Rattle.codec.specs.NineOctets.{reading, badOffset}
+use Rattle.codec.proofs.Tests.{read-fitting, reading-refusal-most}
 use Rattle.lines.specs.Text.{signed}
 use Rattle.lines.specs.Listing.{fields, refused, line, group, lines, longest}
 use Rattle.lines.proofs.Decimal.{length-decimal}
@@ -21,11 +23,11 @@ use Rattle.lines.proofs.Decimal.{length-decimal}
 module _ (g : List ℕ) (r : Reading) (e : r ≡ reading g) where
   pub line-fields : r .refusal ≡ 0 → line g ≡ fields (r .block)
   unfolding line
-  line-fields z = rw (← e, eq-eqb _ _ z)
+  line-fields z = rw (← e) (sym (answer-accepted (fields (r .block)) refused (sym z)))
 
   pub line-refused : (r .refusal ≡ 0 → ⊥) → line g ≡ refused (r .refusal)
   unfolding line
-  line-refused n = rw (← e, ne-eqb _ _ n)
+  line-refused n = rw (← e) (sym (answer-refused (fields (r .block)) refused refl n))
 
 pub lines-next : (n : ℕ) (s : List ℕ) → lines (n + 1) s ≡ lines n s ++ line (group s n)
 unfolding lines
@@ -40,7 +42,7 @@ signed-short (negsuc n) h =
     let l : n ≤ 126 = ltb-false 126 n (or-false (ltb 126 n) false h .0) in
     omega (arith, length-decimal 2 (suc n) (omega arith))
 
-pub fields-short : (b : Block) → Fitting b → length (fields b) ≤ longest
+fields-short : (b : Block) → Fitting b → length (fields b) ≤ longest
 unfolding fields
 fields-short b f =
     simp length-append
@@ -55,6 +57,16 @@ fields-short b f =
       length-decimal 0 (b .bt) (omega (arith, f .bt-low)),
     ))
 
-pub refused-short : (n : ℕ) → n < 2 ^ 32 → length (refused n) ≤ longest
+refused-short : (n : ℕ) → n ≤ 6 → length (refused n) ≤ longest
 unfolding refused
-refused-short n h = simp length-append (omega (arith, length-decimal 9 n (omega arith)))
+refused-short n h = simp length-append (omega (arith, length-decimal 0 n (omega arith)))
+
+pub line-longest : (g : List ℕ) → AreOctets g → length (line g) ≤ longest
+line-longest g are = go (eqb (reading g .refusal) 0) refl
+  where
+    go : (t : Bool) → eqb (reading g .refusal) 0 ≡ t → length (line g) ≤ longest
+    go true e =
+        let z = eqb-true (reading g .refusal) 0 e in
+        rw (line-fields g (reading g) refl z) (fields-short _ (read-fitting g are z))
+    go false e =
+        rw (line-refused g (reading g) refl (eqb-false (reading g .refusal) 0 e)) (refused-short _ (reading-refusal-most g))

@@ -1,10 +1,11 @@
 -- What is claimed of the listing, besides each function's promise. `claims` in src/lib.rt promises all of it.
-use Prim.Native.Nat.{ℕ, _%_}
+use Prim.Native.Nat.{ℕ, _%_, _≤_}
 use mathlib.Core.Path.{_≡_}
 use mathlib.Core.List.{List, [], _∷_, _++_}
 use lib.ListN.{length}
+use Rattle.octets.specs.Octets.{AreOctets}
 use Rattle.lines.specs.Text.{text}
-use Rattle.lines.specs.Listing.{header, line, listed, listing}
+use Rattle.lines.specs.Listing.{header, line, listed, listing, longest}
 
 pub record Claims : Type 0 where
   -- document 01's sample
@@ -15,5 +16,7 @@ pub record Claims : Type 0 where
   pub empty : listing [] ≡ header
   -- a group that does not have nine octets, so a short last one
   pub short : (g : List ℕ) → (length g ≡ 9 → ⊥) → line g ≡ text "refused 1\n"
+  -- no line is longer than `longest`
+  pub no-longer : (g : List ℕ) → AreOctets g → length (line g) ≤ longest
   -- it does not matter in which pieces of whole groups an input comes
   pub pieces : (s t : List ℕ) → length s % 9 ≡ 0 → listed (s ++ t) ≡ listed s ++ listed t

@@ -2,8 +2,9 @@
 use Prim.Native.Nat.{ℕ, zero, suc, _+_, _*_, _/_}
 use mathlib.Core.Bool.{cond}
 use mathlib.Core.List.{List, [], _++_}
-use lib.Dec.{eqb, leb}
+use lib.Dec.{leb}
 use lib.ListN.{length, take, drop}
+use Rattle.octets.specs.Refusals.{answer}
 use Rattle.codec.specs.declared.Block.{Block}
 use Rattle.codec.specs.NineOctets.{reading}
 use Rattle.lines.specs.Text.{text, decimal, signed}
@@ -36,7 +37,7 @@ refused n = text "refused " ++ decimal n ++ text "\n"
 
 -- a group's line
 unfoldable pub line : List ℕ → List ℕ
-line g = cond (eqb (reading g .refusal) 0) (fields (reading g .block)) (refused (reading g .refusal))
+line g = answer (reading g .refusal) (fields (reading g .block)) refused
 
 -- group k of an input, counted from 0: nine octets, or what is left
 abbrev pub group : List ℕ → ℕ → List ℕ

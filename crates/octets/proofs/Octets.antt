@@ -8,18 +8,18 @@ use native.Mathlib.Omega.{arith}
 use lib.Dec.{lit<}
 use lib.ListN.{length, getD, take, drop}
 use lib.Seq.{drop-cons, getD-drop}
-use Rattle.octets.specs.Octets.{Bytes, little, number, numberAt}
+use Rattle.octets.specs.Octets.{AreOctets, little, number, numberAt}
 
--- ---- Bytes
+-- ---- AreOctets
 
-pub bytes-take : (w : ℕ) (bs : List ℕ) → Bytes bs → Bytes (take w bs)
-bytes-take zero bs h i = lit< tt
-bytes-take (suc w) [] h i = lit< tt
-bytes-take (suc w) (b ∷ bs) h zero = h 0
-bytes-take (suc w) (b ∷ bs) h (suc i) = bytes-take w bs (λ j. h (suc j)) i
+pub are-octets-take : (w : ℕ) (bs : List ℕ) → AreOctets bs → AreOctets (take w bs)
+are-octets-take zero bs h i = lit< tt
+are-octets-take (suc w) [] h i = lit< tt
+are-octets-take (suc w) (b ∷ bs) h zero = h 0
+are-octets-take (suc w) (b ∷ bs) h (suc i) = are-octets-take w bs (λ j. h (suc j)) i
 
-pub bytes-drop : (w : ℕ) (bs : List ℕ) → Bytes bs → Bytes (drop w bs)
-bytes-drop w bs h i = rw getD-drop (h (w + i))
+pub are-octets-drop : (w : ℕ) (bs : List ℕ) → AreOctets bs → AreOctets (drop w bs)
+are-octets-drop w bs h i = rw getD-drop (h (w + i))
 
 -- ---- little and number undo each other
 
@@ -28,13 +28,13 @@ unfolding little
 length-little zero n = refl
 length-little (suc w) n = ap suc (length-little w (n / 256))
 
-pub bytes-little : (w n : ℕ) → Bytes (little w n)
+pub are-octets-little : (w n : ℕ) → AreOctets (little w n)
 unfolding little
-bytes-little zero n i = lit< tt
-bytes-little (suc w) n zero = omega arith
-bytes-little (suc w) n (suc i) = bytes-little w (n / 256) i
+are-octets-little zero n i = lit< tt
+are-octets-little (suc w) n zero = omega arith
+are-octets-little (suc w) n (suc i) = are-octets-little w (n / 256) i
 
-pub number-bound : (bs : List ℕ) → Bytes bs → number bs < 256 ^ length bs
+pub number-bound : (bs : List ℕ) → AreOctets bs → number bs < 256 ^ length bs
 unfolding number
 number-bound [] h = lit< tt
 number-bound (b ∷ bs) h = omega (arith, h 0, number-bound bs (λ i. h (suc i)), pow-suc 256 (length bs))
@@ -44,7 +44,7 @@ unfolding little number
 number-little zero n h = omega arith
 number-little (suc w) n h = rw (number-little w (n / 256) (omega (arith, pow-suc 256 w))) (omega arith)
 
-pub little-number : (bs : List ℕ) → Bytes bs → little (length bs) (number bs) ≡ bs
+pub little-number : (bs : List ℕ) → AreOctets bs → little (length bs) (number bs) ≡ bs
 unfolding little number
 little-number [] h = refl
 little-number (b ∷ bs) h =

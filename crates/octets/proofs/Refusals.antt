@@ -1,10 +1,10 @@
 -- Laws of `firstOf` and `answer`: which refusal a call gets, and what it gives by it; and what a test tells that does not hold. Assumes nothing.
-use Prim.Native.Nat.{ℕ, zero, suc, _≤_}
+use Prim.Native.Nat.{ℕ, zero, suc, _≤_, zero-le}
 use mathlib.Core.Path.{_≡_, refl, sym, _∙_}
-use mathlib.Core.Bool.{Bool, true, false, cond, not, _&&_, _||_, true≢false, false≢true}
+use mathlib.Core.Bool.{Bool, true, false, cond, not, _&&_, _||_, true≢false, false≢true, and-eq-true-iff}
 use mathlib.Core.List.{List, [], _∷_, _++_}
-use lib.Dec.{ltb, eqb, eqb·suc-zero}
-use borrow.Author.Tests.{eq-eqb, ne-eqb, ltb-false}
+use lib.Dec.{ltb, leb, eqb, eqb·suc-zero}
+use borrow.Author.Tests.{eq-eqb, ne-eqb, ltb-false, leb-true}
 use Rattle.octets.specs.Lists.{every}
 use Rattle.octets.specs.Refusals.{firstOf, answer, outside}
 
@@ -36,6 +36,17 @@ firstOf-zero [] n h = tt
 firstOf-zero (x ∷ xs) n h =
     let p = firstOf-cons x xs n h in
     (p .0, firstOf-zero xs (p .1) (p .2))
+
+-- no refusal is above the list's highest number
+pub firstOf-most : (m : ℕ) (xs : List (ℕ × Bool)) → every (λ x. leb (x .0) m) xs ≡ true → firstOf xs ≤ m
+firstOf-most m [] h = zero-le
+firstOf-most m (x ∷ xs) h =
+    let p = and-eq-true-iff (leb (x .0) m) (every (λ y. leb (y .0) m) xs) .0 h in
+    go (x .1) (leb-true (x .0) m (p .0)) (firstOf-most m xs (p .1))
+  where
+    go : (b : Bool) → x .0 ≤ m → firstOf xs ≤ m → cond b (x .0) (firstOf xs) ≤ m
+    go true first rest = first
+    go false first rest = rest
 
 -- the tests that follow count where none of the first holds
 pub firstOf-append : (xs ys : List (ℕ × Bool)) → Numbered xs → firstOf xs ≡ 0 → firstOf (xs ++ ys) ≡ firstOf ys
@@ -78,11 +89,11 @@ module _ {A : Type 0} (accepted : A) (refused : ℕ → A) where
   unfolding answer
   answer-accepted e = simp (← e)
 
-  -- an answer that says 0 was accepted
-  pub answer-zero : (said : A → ℕ) → ((n : ℕ) → said (refused n) ≡ n) → (n : ℕ) → said (answer n accepted refused) ≡ 0 → 0 ≡ n
+  -- an answer that says its refusal says the call's
+  pub answer-says : (said : A → ℕ) → said accepted ≡ 0 → ((n : ℕ) → said (refused n) ≡ n) → (n : ℕ) → said (answer n accepted refused) ≡ n
   unfolding answer
-  answer-zero said r zero h = refl
-  answer-zero said r (suc n) h = sym (sym (r (suc n)) ∙ (simp (eqb·suc-zero n) at h))
+  answer-says said a r zero = a
+  answer-says said a r (suc n) = simp (eqb·suc-zero n) (r (suc n))
 
 -- ---- tests that do not hold
 

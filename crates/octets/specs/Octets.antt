@@ -7,8 +7,8 @@ use lib.ListN.{length, getD, take, drop, replicate}
 use Rattle.octets.specs.Lists.{every}
 
 -- every element is an octet: what the language says of each slice of octets
-abbrev pub Bytes : List ℕ → Type 0
-Bytes bs = (i : ℕ) → getD bs i 0 < 256
+abbrev pub AreOctets : List ℕ → Type 0
+AreOctets bs = (i : ℕ) → getD bs i 0 < 256
 
 -- the lowest w octets of n, the lowest first
 unfoldable pub little : ℕ → ℕ → List ℕ

@@ -1,5 +1,5 @@
 -- `octets::claims` promises what the laws prove. Assumes nothing.
-use Rattle.octets.proofs.Octets.{number-little, little-number, length-little, bytes-little, number-bound}
+use Rattle.octets.proofs.Octets.{number-little, little-number, length-little, are-octets-little, number-bound}
 use Rattle.octets.proofs.claims.Statement.{statement}
 use Rattle.octets.proofs.claims.Tie as tie
 
@@ -9,7 +9,7 @@ returns c =
       written-is-read = number-little;
       read-is-written = little-number;
       written-length = length-little;
-      written-octets = bytes-little;
+      written-octets = are-octets-little;
       read-bound = number-bound;
     }
 
