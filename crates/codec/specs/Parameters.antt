@@ -4,7 +4,7 @@ use mathlib.Core.Bool.{Bool, not, _&&_}
 use mathlib.Core.List.{List, [], _∷_}
 use lib.Dec.{eqb}
 use lib.ListN.{getD}
-use Rattle.octets.specs.Refusals.{firstOf, answer, outside}
+use Rattle.octets.specs.Refusals.{firstOf, answer, outside, within}
 use Rattle.codec.specs.declared.Found.{Found}
 use Rattle.codec.specs.Rates.{refusedFound}
 
@@ -39,7 +39,7 @@ step number = getD (rowOf number) 3 0
 -- a figure fits if it lies in its row's range and exceeds the minimum by a whole number of steps
 unfoldable pub fits : ℕ → ℕ → Bool
 fits number figure =
-    not (outside (minimum number) (maximum number) figure)
+    within (minimum number) (maximum number) figure
     && eqb ((figure - minimum number) % step number) 0
 
 -- what a parameter check is refused for: 22, 10

@@ -1,12 +1,12 @@
--- Laws of `firstOf` and `answer`: which refusal a call gets, and what it gives by it; and what a test tells that does not hold. Assumes nothing.
+-- Laws of `firstOf` and `answer`: which refusal a call gets, and what it gives by it; and what a test tells. Assumes nothing.
 use Prim.Native.Nat.{ℕ, zero, suc, _≤_, zero-le}
 use mathlib.Core.Path.{_≡_, refl, sym, _∙_}
 use mathlib.Core.Bool.{Bool, true, false, cond, not, _&&_, _||_, true≢false, false≢true, and-eq-true-iff}
 use mathlib.Core.List.{List, [], _∷_, _++_}
 use lib.Dec.{ltb, leb, eqb, eqb·suc-zero}
-use borrow.Author.Tests.{eq-eqb, ne-eqb, ltb-false, leb-true}
+use borrow.Author.Tests.{eq-eqb, ne-eqb, ltb-false, leb-true, not-true}
 use Rattle.octets.specs.Lists.{every}
-use Rattle.octets.specs.Refusals.{firstOf, answer, outside}
+use Rattle.octets.specs.Refusals.{firstOf, answer, outside, within}
 
 -- ---- firstOf
 
@@ -95,7 +95,7 @@ module _ {A : Type 0} (accepted : A) (refused : ℕ → A) where
   answer-says said a r zero = a
   answer-says said a r (suc n) = simp (eqb·suc-zero n) (r (suc n))
 
--- ---- tests that do not hold
+-- ---- what a test tells
 
 pub or-false : (a b : Bool) → (a || b) ≡ false → (a ≡ false) × (b ≡ false)
 or-false true b h = absurd (true≢false h)
@@ -105,3 +105,6 @@ pub outside-false : (lo hi n : ℕ) → outside lo hi n ≡ false → (lo ≤ n)
 outside-false lo hi n h =
     let p = or-false (ltb n lo) (ltb hi n) h in
     (ltb-false n lo (p .0), ltb-false hi n (p .1))
+
+pub within-true : (lo hi n : ℕ) → within lo hi n ≡ true → (lo ≤ n) × (n ≤ hi)
+within-true lo hi n h = outside-false lo hi n (not-true (outside lo hi n) h)

@@ -1,12 +1,31 @@
--- A loop that writes zeros from a place on: the octets half-way, and `zeroFrom` at its end. Assumes nothing.
+-- Laws of `zeros`, and of a loop that writes zeros from a place on: the octets half-way, and `zeroFrom` at its end. Assumes nothing.
 use Prim.Native.Nat.{ℕ, zero, suc, _+_, _-_, _<_, _≤_}
 use mathlib.Core.Path.{_≡_, refl, ap, _∙_, sym}
-use mathlib.Core.List.{List, _∷_, _++_, append-assoc, append-nil}
+use mathlib.Core.Bool.{true, and-eq-true-iff}
+use mathlib.Core.List.{List, [], _∷_, _++_, append-assoc, append-nil}
 use native.Mathlib.Numerals.{add-one}
 use native.Mathlib.Omega.{arith}
+use lib.Dec.{eqb}
+use borrow.Author.Tests.{eqb-true}
 use lib.ListN.{length, getD, take, drop, set, replicate, length-append, length-replicate, drop-of-length-le, take-append-drop}
 use lib.Seq.{drop-cons, set-at, length-take-le}
-use Rattle.octets.specs.Octets.{zeroFrom}
+use Rattle.octets.specs.Octets.{zeros, zeroFrom}
+
+-- ---- zeros
+
+pub zeros-replicate : (n : ℕ) → zeros (replicate n 0) ≡ true
+zeros-replicate zero = refl
+zeros-replicate (suc n) = zeros-replicate n
+
+pub zeros-true : (m : List ℕ) → zeros m ≡ true → m ≡ replicate (length m) 0
+zeros-true [] h = refl
+zeros-true (b ∷ m) h =
+    let p = and-eq-true-iff (eqb b 0) (zeros m) .0 h in
+    let e = eqb-true b 0 (p .0) in
+    let i = zeros-true m (p .1) in
+    λ j. e j ∷ i j
+
+-- ---- zeroFrom
 
 -- zeros from a place to i, and the rest as it was
 abbrev pub cleared : ℕ → ℕ → List ℕ → List ℕ

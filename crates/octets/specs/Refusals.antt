@@ -1,6 +1,6 @@
 -- Refusals, one way for every call: the refusal numbers with their tests, in document 01's order; the first that applies is given.
 use Prim.Native.Nat.{ℕ}
-use mathlib.Core.Bool.{Bool, cond, _||_}
+use mathlib.Core.Bool.{Bool, cond, not, _||_}
 use mathlib.Core.List.{List, [], _∷_}
 use lib.Dec.{ltb, eqb}
 
@@ -16,3 +16,7 @@ answer n accepted refused = cond (eqb n 0) accepted (refused n)
 -- not in lo..hi
 abbrev pub outside : ℕ → ℕ → ℕ → Bool
 outside lo hi n = ltb n lo || ltb hi n
+
+-- in lo..hi
+abbrev pub within : ℕ → ℕ → ℕ → Bool
+within lo hi n = not (outside lo hi n)

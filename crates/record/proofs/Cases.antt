@@ -1,0 +1,9 @@
+-- The octets of one record, by computing. Assumes nothing.
+use mathlib.Core.Path.{refl}
+use Rattle.octets.specs.Octets.{little}
+use Rattle.record.specs.Record.{fields, littles, encode}
+use Rattle.record.specs.Claims.{OneRecord}
+
+pub one-record : OneRecord
+unfolding fields littles encode little
+one-record = refl

@@ -1,0 +1,19 @@
+-- `record::claims` promises what the laws prove. Assumes nothing.
+use Rattle.record.specs.Record.{size}
+use Rattle.record.proofs.Cases.{one-record}
+use Rattle.record.proofs.Views.{view-image, image-view, whole-length, length-image}
+use Rattle.record.proofs.claims.Statement.{statement}
+use Rattle.record.proofs.claims.Tie as tie
+
+returns : tie.Need-returns
+unfolding size
+returns c =
+    record {
+      written-is-read = view-image;
+      read-is-written = λ m are w. image-view m are (whole-length m w);
+      written-length = length-image;
+      one-record = one-record;
+    }
+
+pub claims-spec : {M : Type 1} → statement M
+claims-spec = tie.close (tie.spec returns)

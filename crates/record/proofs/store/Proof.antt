@@ -1,0 +1,33 @@
+-- `record::store` meets its contract: past the last record neither `put` nor `set` changes anything. Assumes nothing.
+use mathlib.Core.Path.{sym}
+use native.Mathlib.Omega.{arith}
+use borrow.Author.Needs.{needs}
+use denote.Ref.{now}
+use lib.Seq.{set-out}
+use Rattle.record.specs.Record.{capacity, size, view}
+use Rattle.record.proofs.Views.{length-view}
+use Rattle.record.proofs.Places.{put-out}
+use Rattle.record.proofs.store.Statement.{statement}
+use Rattle.record.proofs.store.Tie as tie
+
+store-at-requires : tie.Need-store-at-requires
+unfolding capacity size
+store-at-requires c κs = search needs
+
+same-length : tie.Need-same-length
+same-length c = search needs
+
+returns : tie.Need-returns
+returns c = search needs
+
+returns-2 : tie.Need-returns-2
+unfolding capacity size
+returns-2 c =
+    let s = c .before .before in
+    let m = now (s .args .mem) in (
+      sym (put-out m (s .args .i) (s .args .r) (omega arith)),
+      sym (set-out (view m) (s .args .i) (s .args .r) (omega (arith, length-view m))),
+    )
+
+pub store-spec : {M : Type 1} → statement M
+store-spec = tie.close (tie.spec store-at-requires same-length returns returns-2)

@@ -1,0 +1,24 @@
+-- What is claimed of records in memory, besides each function's promise. `claims` in src/lib.rt promises all of it.
+use Prim.Native.Nat.{ℕ, _*_}
+use mathlib.Core.Path.{_≡_}
+use mathlib.Core.Bool.{true}
+use mathlib.Core.List.{List, [], _∷_}
+use lib.ListN.{length as len}
+use Rattle.octets.specs.Octets.{AreOctets}
+use Rattle.record.specs.declared.Rec.{Rec}
+use Rattle.record.specs.Record.{encode, AllFit, image, whole, view}
+
+-- the octets of one record, in 01's order and little-endian: that records come back does not tell
+abbrev pub OneRecord : Type 0
+OneRecord =
+    encode (record { station = 0x01020304; first = 0x0A0B0C0D; rate = 3; superframes = 2; length = 5; far = 1 })
+    ≡ 0x04 ∷ 0x03 ∷ 0x02 ∷ 0x01 ∷ 0x0D ∷ 0x0C ∷ 0x0B ∷ 0x0A ∷ 3 ∷ 2 ∷ 5 ∷ 1 ∷ []
+
+pub record Claims : Type 0 where
+  -- records whose numbers fit come back from their octets
+  pub written-is-read : (rs : List Rec) → AllFit rs → view (image rs) ≡ rs
+  -- the octets of a whole number of records come back from the records
+  pub read-is-written : (m : List ℕ) → AreOctets m → whole m ≡ true → image (view m) ≡ m
+  -- 12 octets for each record, and no others
+  pub written-length : (rs : List Rec) → len (image rs) ≡ len rs * 12
+  pub one-record : OneRecord

@@ -1,0 +1,100 @@
+-- How records lie in the lent memory: the octets of one, of a list, and the records that a memory has room for.
+use Prim.Native.Nat.{ℕ, zero, suc, _*_, _/_, _%_, _^_, _<_}
+use mathlib.Core.Bool.{Bool, cond}
+use mathlib.Core.List.{List, [], _∷_, _++_}
+use lib.Dec.{ltb, eqb}
+use lib.ListN.{length as len, getD, take, drop}
+use lib.Seq.{sets}
+use Rattle.octets.specs.Octets.{little, number}
+use Rattle.record.specs.declared.Rec.{Rec}
+
+-- ---- one record
+
+-- records of 12 octets
+unfoldable pub size : ℕ
+size = 12
+
+-- station (4), first slot (4), rate (1), superframes (1), length (1), far (1)
+abbrev pub widths : List ℕ
+widths = 4 ∷ 4 ∷ 1 ∷ 1 ∷ 1 ∷ 1 ∷ []
+
+-- the numbers of a record, in this order
+unfoldable pub fields : Rec → List ℕ
+fields r = r .station ∷ r .first ∷ r .rate ∷ r .superframes ∷ r .length ∷ r .far ∷ []
+
+-- the record of numbers in this order
+unfoldable pub made : List ℕ → Rec
+made ns =
+    record { station = getD ns 0 0; first = getD ns 1 0; rate = getD ns 2 0; superframes = getD ns 3 0; length = getD ns 4 0; far = getD ns 5 0 }
+
+-- numbers little-endian, each in the octets of its width, one after the other
+unfoldable pub littles : List ℕ → List ℕ → List ℕ
+littles [] ns = []
+littles (w ∷ ws) [] = []
+littles (w ∷ ws) (n ∷ ns) = little w n ++ littles ws ns
+
+-- the numbers that such octets say
+unfoldable pub numbers : List ℕ → List ℕ → List ℕ
+numbers [] bs = []
+numbers (w ∷ ws) bs = number (take w bs) ∷ numbers ws (drop w bs)
+
+-- the octets of a record
+unfoldable pub encode : Rec → List ℕ
+encode r = littles widths (fields r)
+
+-- the record that the first octets say
+unfoldable pub decode : List ℕ → Rec
+decode bs = made (numbers widths bs)
+
+-- the record of zeros
+unfoldable pub blank : Rec
+blank = record { station = 0; first = 0; rate = 0; superframes = 0; length = 0; far = 0 }
+
+-- each number fits the octets of its width
+abbrev pub Fit : List ℕ → List ℕ → Type 0
+Fit [] [] = Unit {0}
+Fit [] (n ∷ ns) = ⊥
+Fit (w ∷ ws) [] = ⊥
+Fit (w ∷ ws) (n ∷ ns) = (n < 256 ^ w) × Fit ws ns
+
+-- a record whose numbers fit, as those of every `Rec` in the code do
+abbrev pub FitRec : Rec → Type 0
+unfolding fields
+FitRec r = Fit widths (fields r)
+
+-- each record of a list fits
+abbrev pub AllFit : List Rec → Type 0
+AllFit [] = Unit {0}
+AllFit (r ∷ rs) = FitRec r × AllFit rs
+
+-- ---- a memory of records, no header
+
+-- the octets of records, one after the other
+unfoldable pub image : List Rec → List ℕ
+image [] = []
+image (r ∷ rs) = encode r ++ image rs
+
+-- a memory is a whole number of records
+abbrev pub whole : List ℕ → Bool
+whole m = eqb (len m % size) 0
+
+-- the capacity: how many records a memory has room for
+unfoldable pub capacity : List ℕ → ℕ
+capacity m = len m / size
+
+-- the octets after the first n records
+abbrev pub rest : ℕ → List ℕ → List ℕ
+rest n m = drop (n * size) m
+
+-- the first n records of a memory
+unfoldable pub views : ℕ → List ℕ → List Rec
+views zero m = []
+views (suc n) m = decode m ∷ views n (drop size m)
+
+-- all records that a memory has room for, those past the count too
+unfoldable pub view : List ℕ → List Rec
+view m = views (capacity m) m
+
+-- a memory with record i written over; past the last record, as it was
+unfoldable pub put : List ℕ → ℕ → Rec → List ℕ
+put m i r = cond (ltb i (capacity m)) (sets m (i * size) (encode r)) m

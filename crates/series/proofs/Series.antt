@@ -1,0 +1,46 @@
+-- The last slot is the last that a record reserves. Assumes nothing.
+use Prim.Native.Nat.{ℕ, _+_, _-_, _*_, _/_, _≤_, _<_}
+use native.Mathlib.Nat.{mul-le-mul-right}
+use native.Mathlib.Omega.{arith}
+use mathlib.Core.Path.{_≡_}
+use mathlib.Core.Bool.{true, and-eq-true-iff}
+use lib.Dec.{leb, ltb}
+use borrow.Author.Tests.{leb-true, ltb-true, le-leb, lt-ltb}
+use Rattle.record.specs.declared.Rec.{Rec}
+use Rattle.series.specs.Series.{someBelow, start, inBlock, reserves, lastSlot}
+use Rattle.series.specs.Claims.{LastReserved, NoneOutside}
+use Rattle.series.proofs.SomeBelow.{someBelow-at, someBelow-elim}
+
+inBlock-true : (from length slot : ℕ) → from ≤ slot → slot < from + length → inBlock from length slot ≡ true
+unfolding inBlock
+inBlock-true from length slot h l = rw (le-leb from slot h, lt-ltb slot (from + length) l)
+
+inBlock-both : (from length slot : ℕ) → inBlock from length slot ≡ true → (from ≤ slot) × (slot < from + length)
+unfolding inBlock
+inBlock-both from length slot h =
+    let p = and-eq-true-iff (leb from slot) (ltb slot (from + length)) .0 h in
+    (leb-true from slot (p .0), ltb-true slot (from + length) (p .1))
+
+-- no block starts after the last
+start-last : (m1 : ℕ) (r : Rec) (k j : ℕ) → k < r .superframes → j < r .rate → start m1 r k j ≤ start m1 r (r .superframes - 1) (r .rate - 1)
+start-last m1 r k j lk lj =
+    let a : k * m1 ≤ (r .superframes - 1) * m1 = mul-le-mul-right m1 (omega arith) in
+    let b : j * (m1 / r .rate) ≤ (r .rate - 1) * (m1 / r .rate) = mul-le-mul-right (m1 / r .rate) (omega arith) in
+    omega arith
+
+pub last-reserved : LastReserved
+unfolding reserves lastSlot
+last-reserved m1 r f g l =
+    let last = start m1 r (r .superframes - 1) (r .rate - 1) in
+    someBelow-at (r .superframes) (λ k. someBelow (r .rate) (λ j. inBlock (start m1 r k j) (r .length) (last + r .length - 1))) (r .superframes - 1) (omega arith)
+    (someBelow-at (r .rate) (λ j. inBlock (start m1 r (r .superframes - 1) j) (r .length) (last + r .length - 1)) (r .rate - 1) (omega arith)
+    (inBlock-true last (r .length) (last + r .length - 1) (omega arith) (omega arith)))
+
+pub none-outside : NoneOutside
+unfolding reserves lastSlot
+none-outside m1 r slot h =
+    someBelow-elim (r .superframes) (λ k. someBelow (r .rate) (λ j. inBlock (start m1 r k j) (r .length) slot)) (λ k lk.
+    someBelow-elim (r .rate) (λ j. inBlock (start m1 r k j) (r .length) slot) (λ j lj e.
+    let b = inBlock-both (start m1 r k j) (r .length) slot e in
+    let t = start-last m1 r k j lk lj in
+    (omega arith, omega arith))) h

@@ -1,0 +1,102 @@
+// The block series of a record: which slots it reserves, and its last one.
+use record::Rec;
+ghost use mathlib.Core.Path.{_≡_};
+ghost use Prim.Native.Nat.{_+_, _-_, _*_, _/_, _≤_};
+ghost use Rattle.series.specs.Series.{someBelow, inBlock, reserves, lastSlot};
+ghost use Rattle.series.specs.Claims.{Claims};
+
+fn less_one(x: u64) -> u64
+    ensures { λ r. ⌜ r ≡ x - 1 ⌝ }
+{
+    if x == 0 {
+        return 0;
+    }
+    x - 1
+}
+
+// x over d, the remainder dropped; 0 where d is 0, as in the definitions.
+fn quotient(x: u64, d: u64) -> u64
+    ensures { λ r. ⌜ (r ≡ x / d) × (r ≤ x) ⌝ }
+{
+    if d == 0 {
+        return 0;
+    }
+    x / d
+}
+
+// A product that stays small.
+fn times(n: u64, m: u64) -> u64
+    requires { ⌜ (n ≤ 255) × (m ≤ 4294967295) ⌝ }
+    ensures { λ r. ⌜ (r ≡ n * m) × (r ≤ 1095216660225) ⌝ }
+{
+    n * m
+}
+
+// The slots from the start of a superframe's block 0 to that of its block j.
+fn offset(j: u64, m1: u64, rate: u64) -> u64
+    requires { ⌜ (j ≤ 255) × (m1 ≤ 4294967295) ⌝ }
+    ensures { λ r. ⌜ (r ≡ j * (m1 / rate)) × (r ≤ 1095216660225) ⌝ }
+{
+    times(j, quotient(m1, rate))
+}
+
+// Whether a slot is one of the length slots from start.
+fn in_block(start: u64, length: u64, slot: u64) -> bool
+    requires { ⌜ (start ≤ 4398046511104) × (length ≤ 255) ⌝ }
+    ensures { λ b. ⌜ b ≡ inBlock start length slot ⌝ }
+{
+    let a = start <= slot;
+    let b = slot < start + length;
+    a & b
+}
+
+// Whether one of the blocks of a superframe, the first of which starts at base, holds a slot.
+fn in_superframe(base: u64, m1: u64, rate: u64, length: u64, slot: u64) -> bool
+    requires { ⌜ (base ≤ 1099511627776) × (m1 ≤ 4294967295) × (rate ≤ 255) × (length ≤ 255) ⌝ }
+    ensures { λ b. ⌜ b ≡ someBelow rate (λ j. inBlock (base + j * (m1 / rate)) length slot) ⌝ }
+{
+    let mut j = 0;
+    while j < rate {
+        if in_block(base + offset(j, m1, rate), length, slot) {
+            return true;
+        }
+        j += 1;
+    }
+    false
+}
+
+// Whether a record reserves a slot: its blocks are tried in turn.
+pub fn reserves(r: Rec, m1: u32, slot: u32) -> bool
+    ensures { λ b. ⌜ b ≡ reserves m1 r slot ⌝ }
+{
+    let m = m1 as u64;
+    let s = slot as u64;
+    let first = r.first as u64;
+    let rate = r.rate as u64;
+    let superframes = r.superframes as u64;
+    let length = r.length as u64;
+    let mut k = 0;
+    while k < superframes {
+        if in_superframe(first + times(k, m), m, rate, length, s) {
+            return true;
+        }
+        k += 1;
+    }
+    false
+}
+
+// The last slot that a record reserves.
+pub fn last_slot(r: Rec, m1: u32) -> u64
+    ensures { λ s. ⌜ s ≡ lastSlot m1 r ⌝ }
+{
+    let m = m1 as u64;
+    let rate = r.rate as u64;
+    let superframes = times(less_one(r.superframes as u64), m);
+    let blocks = offset(less_one(rate), m, rate);
+    less_one(r.first as u64 + superframes + blocks + r.length as u64)
+}
+
+// What this crate claims over its promises.
+pub fn claims()
+    ensures { λ _. ⌜ Claims ⌝ }
+{}

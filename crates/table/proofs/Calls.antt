@@ -1,0 +1,139 @@
+-- What a call gives back and leaves, by its refusal. Assumes nothing.
+use Prim.Native.Nat.{ℕ, zero, suc, _+_, _-_, _≤_}
+use native.Mathlib.Omega.{arith}
+use mathlib.Core.Path.{_≡_, refl, ap, _∙_, sym}
+use mathlib.Core.Bool.{Bool, true, false, not, true≢false}
+use mathlib.Core.List.{[], _∷_, _++_}
+use lib.Dec.{ltb}
+use borrow.Author.Tests.{ltb-false}
+use lib.ListN.{length, length-append}
+use Rattle.octets.specs.Lists.{keep}
+use Rattle.octets.specs.Refusals.{firstOf, outside}
+use Rattle.octets.proofs.Lists.{length-keep-not}
+use Rattle.octets.proofs.Refusals.{firstOf-append, firstOf-stop, firstOf-zero, outside-false, or-false, answer-refused, answer-accepted}
+use Rattle.record.specs.Record.{capacity}
+use Rattle.record.specs.declared.Rec.{Rec}
+use Rattle.table.specs.declared.Request.{Request}
+use Rattle.table.specs.Table.{Call, clock, reserve, distance, wipe, look, asked, requestTests, placeTests, tests, changed, reported}
+use Rattle.table.specs.Memory.{Store, stateOf, records, sound, read, packed, write, refusal, leaves, says, returned}
+use Rattle.table.specs.Steps.{refused, swept, added, addedMemory}
+use Rattle.table.proofs.Memory.{Held, held}
+
+-- a slot state or a search, which leave all as it was
+abbrev pub isLook : Call → Bool
+isLook (clock slot) = false
+isLook (reserve q) = false
+isLook (distance s d limit) = false
+isLook (wipe s) = false
+isLook (look f) = true
+
+-- ---- which refusal
+
+pub refusal-unsound : (m : Store) (c : Call) → sound m ≡ false → 11 ≡ refusal m c
+unfolding refusal
+refusal-unsound m c h = rw h
+
+pub refusal-sound : (m : Store) (c : Call) → sound m ≡ true → refusal m c ≡ firstOf (tests (read m) c)
+unfolding refusal
+refusal-sound m c h = rw h
+
+-- ---- a refused call
+
+pub refused-leaves : (m : Store) (c : Call) → (refusal m c ≡ 0 → ⊥) → m ≡ leaves m c
+unfolding leaves
+refused-leaves m (clock slot) h = answer-refused _ (λ _. m) refl h
+refused-leaves m (reserve q) h = answer-refused _ (λ _. m) refl h
+refused-leaves m (distance s d limit) h = answer-refused _ (λ _. m) refl h
+refused-leaves m (wipe s) h = answer-refused _ (λ _. m) refl h
+refused-leaves m (look f) h = refl
+
+-- what it gives back, and the memory at exit
+pub refused-gives : (m : Store) (c : Call) (n : ℕ) → n ≡ refusal m c → (n ≡ 0 → ⊥)
+    → (refused n (stateOf m) ≡ returned m c) × (m .memory ≡ leaves m c .memory)
+unfolding returned says
+refused-gives m c n e h =
+    let l = refused-leaves m c (λ z. h (e ∙ z)) in (
+      rw (← l, ← e) (ap (λ k. record { refusal = n; number = k; state = stateOf m }) (answer-refused (reported (read m) c) (λ _. 0) {n = n} refl h)),
+      ap (λ (u : Store). u .memory) l,
+    )
+
+-- ---- an accepted call
+
+accepted-leaves : (m : Store) (c : Call) → 0 ≡ refusal m c → isLook c ≡ false → write (changed (read m) c) ≡ leaves m c
+unfolding leaves
+accepted-leaves m (clock slot) h n = answer-accepted (write (changed (read m) (clock slot))) (λ _. m) h
+accepted-leaves m (reserve q) h n = answer-accepted (write (changed (read m) (reserve q))) (λ _. m) h
+accepted-leaves m (distance s d limit) h n = answer-accepted (write (changed (read m) (distance s d limit))) (λ _. m) h
+accepted-leaves m (wipe s) h n = answer-accepted (write (changed (read m) (wipe s))) (λ _. m) h
+accepted-leaves m (look f) h n = absurd (true≢false n)
+
+pub accepted-gives : (m : Store) (c : Call) → 0 ≡ refusal m c → isLook c ≡ false
+    → (record { refusal = 0; number = reported (read m) c; state = stateOf (write (changed (read m) c)) } ≡ returned m c)
+    × (write (changed (read m) c) .memory ≡ leaves m c .memory)
+unfolding returned says
+accepted-gives m c h n =
+    let l = accepted-leaves m c h n in (
+      rw (← h, l) (ap (λ k. record { refusal = 0; number = k; state = stateOf (leaves m c) }) (answer-accepted (reported (read m) c) (λ _. 0) {m = 0} refl)),
+      ap (λ (u : Store). u .memory) l,
+    )
+
+-- one that keeps the records that pass p, at time t, and reports those that pass q, which are the others
+pub sweep-gives : (m : Store) → Held m → (c : Call) → 0 ≡ refusal m c → isLook c ≡ false
+    → (t : ℕ) (p q : Rec → Bool) → ((r : Rec) → q r ≡ not (p r))
+    → changed (read m) c ≡ record { m1 = m .m1; now = t; capacity = capacity (m .memory); records = keep p (records m) }
+    → reported (read m) c ≡ length (keep q (records m))
+    → (swept m t p ≡ returned m c) × (packed (capacity (m .memory)) (keep p (records m)) ≡ leaves m c .memory)
+unfolding write
+sweep-gives m k c z n t p q f e r =
+    let g = accepted-gives m c z n in
+    let d : m .count - length (keep p (records m)) ≡ reported (read m) c = rw r (omega (arith, k .counted, length-keep-not p q f (records m))) in
+    (rw (d, ← g .0, e), rw (← g .1, e))
+
+-- ---- a reserve
+
+-- the numbers of a request that is not refused for them
+pub record InRange (q : Request) : Type 0 where
+  pub rate-most : q .rate ≤ 60
+  pub superframes-most : q .superframes ≤ 3
+  pub length-most : q .length ≤ 32
+  pub bs-most : q .bs ≤ 255
+
+pub request-passed : (q : Request) → firstOf (requestTests q) ≡ 0 → InRange q
+request-passed q z =
+    let p = firstOf-zero (requestTests q) refl z in
+    let size = or-false (ltb 3 (q .superframes)) (outside 1 32 (q .length)) (p .1 .1 .1 .0) in
+    record {
+      rate-most = outside-false 1 60 (q .rate) (p .1 .0) .1;
+      superframes-most = ltb-false 3 (q .superframes) (size .0);
+      length-most = outside-false 1 32 (q .length) (size .1) .1;
+      bs-most = outside-false 2 255 (q .bs) (p .1 .1 .1 .1 .0) .1;
+    }
+
+module _ (m : Store) (q : Request) where
+  abbrev x : Rec
+  x = asked (m .now) q
+
+  -- refused for its numbers
+  pub request-refused : sound m ≡ true → (firstOf (requestTests q) ≡ 0 → ⊥) → firstOf (requestTests q) ≡ refusal m (reserve q)
+  unfolding read
+  request-refused h z = sym (refusal-sound m (reserve q) h ∙ firstOf-stop (requestTests q) (placeTests (read m) x) z)
+
+  -- not refused for them, it goes by the place for its record
+  pub request-added : sound m ≡ true → firstOf (requestTests q) ≡ 0
+      → (added m x ≡ returned m (reserve q)) × (addedMemory m x ≡ leaves m (reserve q) .memory)
+  unfolding added addedMemory write read
+  request-added h z = go (firstOf (placeTests (read m) x)) refl
+    where
+      e : refusal m (reserve q) ≡ firstOf (placeTests (read m) x)
+      e = refusal-sound m (reserve q) h ∙ firstOf-append (requestTests q) (placeTests (read m) x) refl z
+
+      l : length (records m ++ (x ∷ [])) ≡ m .count + 1
+      l = length-append (records m) (x ∷ []) ∙ ap (λ n. n + 1) (held m h .counted)
+
+      go : (n : ℕ) → firstOf (placeTests (read m) x) ≡ n → (added m x ≡ returned m (reserve q)) × (addedMemory m x ≡ leaves m (reserve q) .memory)
+      go zero f =
+          let g = accepted-gives m (reserve q) (sym (e ∙ f)) refl in
+          (sym (answer-accepted _ _ (sym f)) ∙ rw (← l) (g .0), sym (answer-accepted _ _ (sym f)) ∙ g .1)
+      go (suc n) f =
+          let g = refused-gives m (reserve q) (suc n) (sym (e ∙ f)) (omega arith) in
+          (sym (answer-refused _ _ {n = suc n} (sym f) (omega arith)) ∙ g .0, sym (answer-refused _ _ {n = suc n} (sym f) (omega arith)) ∙ g .1)

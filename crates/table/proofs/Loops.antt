@@ -1,0 +1,100 @@
+-- Loops over the first records of a memory: the records still to come, those that stay moved to the front, each one changed. Assumes nothing.
+use Prim.Native.Nat.{ℕ, suc, _+_, _<_, _≤_}
+use native.Mathlib.Nat.{add-zero}
+use native.Mathlib.Numerals.{add-one}
+use native.Mathlib.Omega.{arith}
+use mathlib.Core.Path.{_≡_, refl, ap, _∙_, sym}
+use mathlib.Core.Bool.{Bool, true, false, cond}
+use mathlib.Core.List.{List, [], _∷_, _++_, map, append-assoc, append-nil}
+use lib.ListN.{length, getD, take, drop, set, length-append, length-take, length-drop, length-map, drop-of-length-le}
+use lib.Seq.{slice, slice-cons, take-suc, drop-cons, getD-at, set-at, length-take-le, getD-drop, drop-drop, drop-set-lt, take-suc-set}
+use Rattle.octets.specs.Lists.{keep}
+use Rattle.octets.proofs.Lists.{keep-append, length-keep}
+use Rattle.record.specs.Record.{blank, capacity, view}
+use Rattle.record.specs.declared.Rec.{Rec}
+use Rattle.record.proofs.Views.{length-view}
+use Rattle.table.specs.Steps.{sieved, moved, mapped}
+
+-- ---- the records still to come
+
+-- the records of a memory from i to n
+abbrev pub toCome : ℕ → ℕ → List ℕ → List Rec
+toCome i n m = slice i n (view m)
+
+pub toCome-next : (i n : ℕ) (m : List ℕ) → i < n → n ≤ capacity m → toCome i n m ≡ getD (view m) i blank ∷ toCome (i + 1) n m
+toCome-next i n m h k = rw add-one (slice-cons i n (view m) blank h (rw length-view k))
+
+pub toCome-none : (i n : ℕ) (m : List ℕ) → n ≤ i → toCome i n m ≡ []
+toCome-none i n m h = drop-of-length-le (take n (view m)) {i = i} (omega (arith, length-take n (view m)))
+
+-- ---- the records that pass, counted and moved to the front
+
+module _ (p : Rec → Bool) (vs : List Rec) where
+  pub kept-le : (i : ℕ) → length (keep p (take i vs)) ≤ i
+  kept-le i = omega (arith, length-keep p (take i vs), length-take i vs)
+
+  keep-more : (i : ℕ) → i < length vs → keep p (take (i + 1) vs) ≡ keep p (take i vs) ++ cond (p (getD vs i blank)) (getD vs i blank ∷ []) []
+  keep-more i h = rw (add-one, take-suc vs i blank h, keep-append)
+
+  -- one record more is counted where it passes
+  pub count-next : (w : List Rec) (i k : ℕ) → i < length vs → k ≡ length (keep p (take i vs)) → getD w i blank ≡ getD vs i blank
+      → sieved p w i (k + 1) k ≡ length (keep p (take (i + 1) vs))
+  count-next w i k h ek at = rw (at, keep-more i h, length-append, ← ek) (go (p (getD vs i blank)))
+    where
+      go : (b : Bool) → cond b (k + 1) k ≡ k + length (cond b (getD vs i blank ∷ []) [])
+      go true = refl
+      go false = sym (add-zero k)
+
+  -- w is vs with the k that pass of its first i records moved to the front: from i on it is as it was
+  abbrev pub Sifted : List Rec → ℕ → ℕ → Type 0
+  Sifted w i k = (k ≡ length (keep p (take i vs))) × (take k w ≡ keep p (take i vs)) × (drop i w ≡ drop i vs)
+
+  pub sifted-next : (w : List Rec) (i k : ℕ) → i < length vs → Sifted w i k → Sifted (moved p w i k) (i + 1) (sieved p w i (k + 1) k)
+  sifted-next w i k h s = (count-next w i k h (s .0) at, rw (at, keep-more i h) (front (p (getD vs i blank))), back (p (getD w i blank)))
+    where
+      at : getD w i blank ≡ getD vs i blank
+      at = simp (getD-drop, add-zero) at (ap (λ u. getD u 0 blank) (s .2))
+
+      room : k < length w
+      room = omega (arith, s .0, kept-le i, length-drop i w, length-drop i vs, ap length (s .2))
+
+      front : (b : Bool) → take (cond b (k + 1) k) (cond b (set w k (getD vs i blank)) w) ≡ keep p (take i vs) ++ cond b (getD vs i blank ∷ []) []
+      front true = rw (add-one, take-suc-set w k (getD vs i blank) room, s .1)
+      front false = rw append-nil (s .1)
+
+      rest : drop (i + 1) w ≡ drop (i + 1) vs
+      rest = rw (← drop-drop 1 i w, ← drop-drop 1 i vs, s .2)
+
+      back : (b : Bool) → drop (i + 1) (cond b (set w k (getD w i blank)) w) ≡ drop (i + 1) vs
+      back true = rw (drop-set-lt (i + 1) w k (getD w i blank) (omega (arith, s .0, kept-le i))) rest
+      back false = rest
+
+-- ---- record after record changed
+
+map-append : (f : Rec → Rec) (xs ys : List Rec) → map f (xs ++ ys) ≡ map f xs ++ map f ys
+map-append f [] ys = refl
+map-append f (x ∷ xs) ys = ap (λ (l : List Rec). f x ∷ l) (map-append f xs ys)
+
+module _ (f : Rec → Rec) (vs w : List Rec) (i : ℕ) (h : i < length vs) (ew : w ≡ mapped f i vs) where
+  mapped-is : w ≡ map f (take i vs) ++ (getD vs i blank ∷ drop (suc i) vs)
+  unfolding mapped
+  mapped-is = ew ∙ rw (drop-cons vs i blank h)
+
+  mapped-len : length (map f (take i vs)) ≡ i
+  mapped-len = length-map (take i vs) f ∙ length-take-le i vs (omega arith)
+
+  pub mapped-at : getD w i blank ≡ getD vs i blank
+  mapped-at = rw (mapped-is, getD-at (map f (take i vs)) (getD vs i blank) (drop (suc i) vs) blank i mapped-len)
+
+  pub mapped-next : set w i (f (getD w i blank)) ≡ mapped f (i + 1) vs
+  unfolding mapped
+  mapped-next =
+      rw (
+        mapped-at,
+        mapped-is,
+        set-at (map f (take i vs)) (getD vs i blank) (drop (suc i) vs) (f (getD vs i blank)) i mapped-len,
+        add-one,
+        take-suc vs i blank h,
+        map-append,
+        append-assoc,
+      )

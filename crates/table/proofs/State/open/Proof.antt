@@ -1,0 +1,73 @@
+-- `table::State::open` meets its contract: each `return` rewrites by the tests that led there. Assumes nothing.
+use Prim.Native.Nat.{_-_}
+use native.Mathlib.Omega.{arith}
+use native.Mathlib.Nat.{zero-mul}
+use mathlib.Core.Path.{_≡_, sym, _∙_}
+use mathlib.Core.Bool.{true, false}
+use denote.Ref.{now}
+use lib.ListN.{length}
+use Rattle.octets.specs.Refusals.{answer}
+use Rattle.codec.specs.Parameters as Parameters
+use Rattle.record.specs.Record.{size}
+use Rattle.table.specs.Memory.{sizeFits, openRefusal, openLeaves, openReturned}
+use borrow.Author.Needs.{needs}
+use Rattle.table.proofs.State.open.Statement.{statement}
+use Rattle.table.proofs.State.open.Tie as tie
+
+m1-fits-requires : tie.Need-m1-fits-requires
+m1-fits-requires c κs = search needs
+
+size-fits-requires : tie.Need-size-fits-requires
+size-fits-requires c κs = search needs
+
+clear-requires : tie.Need-clear-requires
+clear-requires c κs = search needs
+
+same-length : tie.Need-same-length
+same-length c = search needs
+
+returns : tie.Need-returns
+unfolding openRefusal openLeaves openReturned answer
+returns c =
+    let m = now (c .before .before .before .before .before .before .before .before .before .before .args .mem) in
+    let f : Parameters.fits 1 (c .before .before .before .before .before .before .before .before .before .before .args .m1) ≡ true = sym (c .before .before .before .before .before .before .before .before .m1-fits .ensures) ∙ c .before .before .before .before .before .before .before .if1 .taken in
+    let z : sizeFits m ≡ true = sym (c .before .before .before .before .before .size-fits .ensures) ∙ c .before .before .before .before .if2 .taken in
+    let l : length m - 0 ≡ length m = omega arith in
+    (rw (f, z), c .before .before .clear .ensures ∙ rw (f, z, zero-mul size, l))
+
+refuse-requires : tie.Need-refuse-requires
+refuse-requires c κs = search needs
+
+same-length-2 : tie.Need-same-length-2
+same-length-2 c = search needs
+
+returns-2 : tie.Need-returns-2
+unfolding openRefusal openLeaves openReturned answer
+returns-2 c =
+    let f : Parameters.fits 1 (c .before .before .before .before .before .before .before .args .m1) ≡ true = sym (c .before .before .before .before .before .m1-fits .ensures) ∙ c .before .before .before .before .if1 .taken in
+    let z : sizeFits (now (c .before .before .before .before .before .before .before .args .mem)) ≡ false = sym (c .before .before .size-fits .ensures) ∙ c .before .if2 .left in
+    (c .refuse .ensures ∙ rw (f, z), rw (f, z))
+
+refuse-requires-2 : tie.Need-refuse-requires-2
+refuse-requires-2 c κs = search needs
+
+returns-3 : tie.Need-returns-3
+unfolding openRefusal openLeaves openReturned answer
+returns-3 c =
+    let f : Parameters.fits 1 (c .before .before .before .before .args .m1) ≡ false = sym (c .before .before .m1-fits .ensures) ∙ c .before .if1 .left in
+    (c .refuse2 .ensures ∙ rw f, rw f)
+
+pub open-spec : {M : Type 1} → statement M
+open-spec =
+    tie.close
+    (tie.spec
+    m1-fits-requires
+    size-fits-requires
+    clear-requires
+    same-length
+    returns
+    refuse-requires
+    same-length-2
+    returns-2
+    refuse-requires-2
+    returns-3)

@@ -1,0 +1,82 @@
+-- `table::State::wipe` meets its contract: what it is refused for, and else what a sweep leaves. Assumes nothing.
+use native.Mathlib.Omega.{arith}
+use mathlib.Core.Path.{_≡_, refl, sym, _∙_}
+use mathlib.Core.Bool.{true, false}
+use denote.Ref.{now}
+use mathlib.Core.Bool.{not, Bool·not-not}
+use borrow.Author.Tests.{le-leb, lt-leb}
+use Rattle.record.specs.declared.Rec.{Rec}
+use Rattle.table.specs.Table.{wipe, of}
+use Rattle.table.specs.Memory.{store, sound, refusal, read}
+use Rattle.table.specs.Steps.{stays}
+use Rattle.table.proofs.Memory.{held}
+use Rattle.table.proofs.Calls.{refusal-unsound, refusal-sound, refused-gives, sweep-gives}
+use borrow.Author.Needs.{needs}
+use Rattle.table.proofs.State.wipe.Statement.{statement}
+use Rattle.table.proofs.State.wipe.Tie as tie
+
+is-sound-requires : tie.Need-is-sound-requires
+is-sound-requires c κs = search needs
+
+refuse-requires : tie.Need-refuse-requires
+refuse-requires c κs = search needs
+
+same-length : tie.Need-same-length
+same-length c = search needs
+
+returns : tie.Need-returns
+returns c =
+    let s = c .before .before .before .before .before .before .args in
+    let M = store (s .self) (now (s .mem)) in
+    let h : sound M ≡ true = sym (c .before .before .before .is-sound .ensures) ∙ c .before .before .if1 .taken in
+    let g = refused-gives M (wipe (s .station)) 8 (sym (refusal-sound M (wipe (s .station)) h ∙ rw (le-leb _ _ (c .before .if2 .taken)))) (omega arith) in
+    (c .refuse .ensures ∙ g .0, g .1)
+
+sweep-requires : tie.Need-sweep-requires
+sweep-requires c κs =
+    let s = c .before .before .before .before .before .before .args in
+    let M = store (s .self) (now (s .mem)) in
+    let h : sound M ≡ true = sym (c .before .before .before .is-sound .ensures) ∙ c .before .before .if1 .taken in
+    h
+
+same-length-2 : tie.Need-same-length-2
+same-length-2 c = search needs
+
+returns-2 : tie.Need-returns-2
+unfolding read stays
+returns-2 c =
+    let s = c .before .before .before .before .before .before .before .before .before .args in
+    let M = store (s .self) (now (s .mem)) in
+    let h : sound M ≡ true = sym (c .before .before .before .before .before .before .is-sound .ensures) ∙ c .before .before .before .before .before .if1 .taken in
+    let z : 0 ≡ refusal M (wipe (s .station)) = sym (refusal-sound M (wipe (s .station)) h ∙ rw (lt-leb _ _ (c .before .before .before .before .if2 .left))) in
+    let g = sweep-gives M (held M h) (wipe (s .station)) z refl (M .now) (λ (r : Rec). not (of (s .station) r)) (of (s .station)) (λ (r : Rec). sym (Bool·not-not (of (s .station) r))) refl refl in
+    (c .before .before .sweep .ensures .0 ∙ g .0, c .before .before .sweep .ensures .1 ∙ g .1)
+
+refuse-requires-2 : tie.Need-refuse-requires-2
+refuse-requires-2 c κs = search needs
+
+same-length-3 : tie.Need-same-length-3
+same-length-3 c = search needs
+
+returns-3 : tie.Need-returns-3
+returns-3 c =
+    let s = c .before .before .before .before .before .args in
+    let M = store (s .self) (now (s .mem)) in
+    let h : sound M ≡ false = sym (c .before .before .is-sound .ensures) ∙ c .before .if1 .left in
+    let g = refused-gives M (wipe (s .station)) 11 (refusal-unsound M (wipe (s .station)) h) (omega arith) in
+    (c .refuse2 .ensures ∙ g .0, g .1)
+
+pub wipe-spec : {M : Type 1} → statement M
+wipe-spec =
+    tie.close
+    (tie.spec
+    is-sound-requires
+    refuse-requires
+    same-length
+    returns
+    sweep-requires
+    same-length-2
+    returns-2
+    refuse-requires-2
+    same-length-3
+    returns-3)

@@ -1,0 +1,80 @@
+-- `table::all_good` meets its contract: the records still to come say the same as the whole. Assumes nothing.
+use Prim.Native.Nat.{_-_}
+use mathlib.Core.Path.{_≡_, refl}
+use native.Mathlib.Omega.{arith}
+use borrow.Author.Needs.{needs}
+use borrow.Author.Tests.{not-true, not-false}
+use denote.Ref.{now}
+use lib.ListN.{take}
+use Rattle.octets.specs.Lists.{every}
+use Rattle.record.specs.Record.{view}
+use Rattle.table.specs.Table.{good}
+use Rattle.table.proofs.Loops.{toCome, toCome-next, toCome-none}
+use Rattle.table.proofs.all_good.Statement.{statement}
+use Rattle.table.proofs.all_good.Tie as tie
+
+abbrev Inv-loop : tie.InvT-loop
+Inv-loop mem n m1 t i₀ i = every (good m1 t) (take n (view mem)) ≡ every (good m1 t) (toCome i n mem)
+
+abbrev μ-loop : tie.MeasureT-loop
+μ-loop mem n m1 t i₀ i = n - i
+
+loop-holds : tie.Need-loop-holds Inv-loop μ-loop
+loop-holds c = refl
+
+load-requires : tie.Need-load-requires Inv-loop μ-loop
+load-requires c κs = search needs
+
+is-good-requires : tie.Need-is-good-requires Inv-loop μ-loop
+is-good-requires c κs = search needs
+
+returns : tie.Need-returns Inv-loop μ-loop
+returns c =
+    let h = c .before .before .before .before in
+    let s = h .before .before in
+    rw (
+      h .loop .inv,
+      toCome-next (h .loop .i) (s .args .n) (now (s .args .mem)) (c .before .before .before .loop-test .taken) (s .pre),
+      ← c .before .before .load .ensures,
+      ← c .before .is-good .ensures,
+      not-true (c .before .is-good .result) (c .if1 .taken),
+    )
+
+add-i : tie.Need-add-i Inv-loop μ-loop
+add-i c = omega arith
+
+loop-less : tie.Need-loop-less Inv-loop μ-loop
+loop-less c = omega arith
+
+loop-again : tie.Need-loop-again Inv-loop μ-loop
+loop-again c =
+    let h = c .before .before .before .before in
+    let s = h .before .before in
+    rw (
+      h .loop .inv,
+      toCome-next (h .loop .i) (s .args .n) (now (s .args .mem)) (c .before .before .before .loop-test .taken) (s .pre),
+      ← c .before .before .load .ensures,
+      ← c .before .is-good .ensures,
+      not-false (c .before .is-good .result) (c .if1 .left),
+    )
+
+returns-2 : tie.Need-returns-2 Inv-loop μ-loop
+returns-2 c =
+    let h = c .before in
+    let s = h .before .before in
+    rw (h .loop .inv, toCome-none (h .loop .i) (s .args .n) (now (s .args .mem)) (c .loop-test .left))
+
+pub all-good-spec : {M : Type 1} → statement M
+all-good-spec =
+    tie.close
+    (tie.spec
+    Inv-loop
+    μ-loop
+    loop-holds
+    load-requires
+    is-good-requires
+    returns
+    add-i
+    loop-less
+    loop-again
+    returns-2)

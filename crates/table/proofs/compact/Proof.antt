@@ -1,0 +1,69 @@
+-- `table::compact` meets its contract: the front holds what stays of the records looked at, and the others are as they were. Assumes nothing.
+use Prim.Native.Nat.{_≤_, _-_}
+use mathlib.Core.Path.{_≡_, refl, _∙_}
+use native.Mathlib.Omega.{arith}
+use denote.Ref.{now}
+use lib.ListN.{length}
+use Rattle.record.specs.Record.{view}
+use Rattle.record.proofs.Views.{length-view, same-capacity}
+use Rattle.table.specs.Steps.{stays}
+use Rattle.table.proofs.Loops.{kept-le, Sifted, sifted-next}
+use Rattle.table.proofs.compact.Statement.{statement}
+use Rattle.table.proofs.compact.Tie as tie
+
+abbrev Inv-loop : tie.InvT-loop
+Inv-loop mem₀ n rule i₀ k₀ mem i k = (i ≤ n) × (length mem ≡ length mem₀) × Sifted (stays rule) (view mem₀) (view mem) i k
+
+abbrev μ-loop : tie.MeasureT-loop
+μ-loop mem₀ n rule i₀ k₀ mem i k = n - i
+
+loop-holds : tie.Need-loop-holds Inv-loop μ-loop
+loop-holds c = (omega arith, refl, (refl, refl, refl))
+
+sift-requires : tie.Need-sift-requires Inv-loop μ-loop
+sift-requires c κs =
+    let h = c .before .before in
+    let s = h .before .before in
+    let m = now (s .args .mem) in
+    omega (arith, same-capacity (h .loop .mem) m (h .loop .inv .1), kept-le (stays (s .args .rule)) (view m) (h .loop .i))
+
+add-i : tie.Need-add-i Inv-loop μ-loop
+add-i c = omega arith
+
+loop-less : tie.Need-loop-less Inv-loop μ-loop
+loop-less c = omega arith
+
+loop-again : tie.Need-loop-again Inv-loop μ-loop
+loop-again c =
+    let h = c .before .before .before .before .before in
+    let s = h .before .before in
+    let m = now (s .args .mem) in
+    let sift = c .before .before .sift in (
+      omega arith,
+      sift .kept .0 ∙ h .loop .inv .1,
+      rw (sift .ensures .0, sift .ensures .1)
+          (sifted-next (stays (s .args .rule)) (view m) (view (h .loop .mem)) (h .loop .i) (h .loop .k) (omega (arith, length-view m)) (h .loop .inv .2)),
+    )
+
+same-length : tie.Need-same-length Inv-loop μ-loop
+same-length c = c .before .loop .inv .1
+
+returns : tie.Need-returns Inv-loop μ-loop
+returns c =
+    let h = c .before in
+    let e : h .before .before .args .n ≡ h .loop .i = omega arith in
+    rw e (h .loop .inv .2 .0, h .loop .inv .2 .1)
+
+pub compact-spec : {M : Type 1} → statement M
+compact-spec =
+    tie.close
+    (tie.spec
+    Inv-loop
+    μ-loop
+    loop-holds
+    sift-requires
+    add-i
+    loop-less
+    loop-again
+    same-length
+    returns)

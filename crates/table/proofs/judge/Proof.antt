@@ -1,0 +1,90 @@
+-- `table::judge` meets its contract: by the records so far and the holders still to come the state is the same. Assumes nothing.
+use Prim.Native.Nat.{_+_, _-_}
+use mathlib.Core.Path.{_≡_, sym, _∙_}
+use native.Mathlib.Omega.{arith}
+use borrow.Author.Needs.{needs}
+use denote.Ref.{now}
+use Rattle.octets.specs.Lists.{keep}
+use Rattle.series.specs.Series.{reserves}
+use Rattle.table.specs.Memory.{store, records}
+use Rattle.table.specs.Slots.{slotState}
+use Rattle.table.proofs.Loops.{toCome, toCome-next, toCome-none}
+use Rattle.table.proofs.Slots.{judged, judged-start, judged-end, judged-near, judged-next}
+use Rattle.table.proofs.judge.Statement.{statement}
+use Rattle.table.proofs.judge.Tie as tie
+
+abbrev Inv-loop : tie.InvT-loop
+Inv-loop s mem slot n any₀ i₀ any i =
+    slotState (s .m1) (records (store s mem)) slot ≡ judged any (keep (λ r. reserves (s .m1) r slot) (toCome i n mem))
+
+abbrev μ-loop : tie.MeasureT-loop
+μ-loop s mem slot n any₀ i₀ any i = n - i
+
+held-count-requires : tie.Need-held-count-requires Inv-loop μ-loop
+held-count-requires c κs = search needs
+
+loop-holds : tie.Need-loop-holds Inv-loop μ-loop
+unfolding slotState
+loop-holds c = rw (c .held-count .ensures .1) (judged-start _)
+
+load-requires : tie.Need-load-requires Inv-loop μ-loop
+load-requires c κs = search needs
+
+reserves-requires : tie.Need-reserves-requires Inv-loop μ-loop
+reserves-requires c κs = search needs
+
+returns : tie.Need-returns Inv-loop μ-loop
+returns c =
+    let h = c .before .before .before .before .before in
+    let a = h .before .before .before .args in
+    let n = h .before .held-count in
+    let load = c .before .before .before .load in
+    let near = judged-near (λ r. reserves (a .s .m1) r (a .slot)) (h .loop .any) (load .result) (toCome (h .loop .i + 1) (n .result) (now (a .mem))) in
+    let next = toCome-next (h .loop .i) (n .result) (now (a .mem)) (c .before .before .before .before .loop-test .taken) (n .ensures .0) in
+    sym (h .loop .inv ∙ rw (next, ← load .ensures) (near (rw (← c .before .before .reserves .ensures) (c .if1 .taken))))
+
+add-i : tie.Need-add-i Inv-loop μ-loop
+add-i c = omega arith
+
+loop-less : tie.Need-loop-less Inv-loop μ-loop
+loop-less c = omega arith
+
+loop-again : tie.Need-loop-again Inv-loop μ-loop
+loop-again c =
+    let h = c .before .before .before .before .before in
+    let a = h .before .before .before .args in
+    let n = h .before .held-count in
+    let load = c .before .before .before .load in
+    let holds = c .before .before .reserves .ensures in
+    let other = judged-next (λ r. reserves (a .s .m1) r (a .slot)) (h .loop .any) (load .result) (toCome (h .loop .i + 1) (n .result) (now (a .mem))) in
+    let next = toCome-next (h .loop .i) (n .result) (now (a .mem)) (c .before .before .before .before .loop-test .taken) (n .ensures .0) in
+    h .loop .inv ∙ rw (next, ← load .ensures, holds) (other (rw (← holds) (c .if1 .left)))
+
+returns-2 : tie.Need-returns-2 Inv-loop μ-loop
+returns-2 c =
+    let h = c .before .before in
+    let none = toCome-none (h .loop .i) (h .before .held-count .result) (now (h .before .before .before .args .mem)) (c .before .loop-test .left) in
+    sym (h .loop .inv ∙ rw (none, judged-end, c .if2 .taken))
+
+returns-3 : tie.Need-returns-3 Inv-loop μ-loop
+returns-3 c =
+    let h = c .before .before in
+    let none = toCome-none (h .loop .i) (h .before .held-count .result) (now (h .before .before .before .args .mem)) (c .before .loop-test .left) in
+    sym (h .loop .inv ∙ rw (none, judged-end, c .if2 .left))
+
+pub judge-spec : {M : Type 1} → statement M
+judge-spec =
+    tie.close
+    (tie.spec
+    Inv-loop
+    μ-loop
+    held-count-requires
+    loop-holds
+    load-requires
+    reserves-requires
+    returns
+    add-i
+    loop-less
+    loop-again
+    returns-2
+    returns-3)

@@ -1,0 +1,78 @@
+-- `table::mark_all` meets its contract: as far as the loop has come the records are changed and counted. Assumes nothing.
+use Prim.Native.Nat.{_≤_, _<_, _-_}
+use mathlib.Core.Path.{_≡_, refl, _∙_}
+use native.Mathlib.Omega.{arith}
+use denote.Ref.{now}
+use lib.ListN.{length, take}
+use Rattle.octets.specs.Lists.{keep}
+use Rattle.record.specs.Record.{view}
+use Rattle.record.proofs.Views.{length-view, same-capacity}
+use Rattle.table.specs.Table.{of, setFar}
+use Rattle.table.specs.Steps.{mapped}
+use Rattle.table.proofs.Loops.{kept-le, count-next, mapped-at, mapped-next}
+use Rattle.table.proofs.mark_all.Statement.{statement}
+use Rattle.table.proofs.mark_all.Tie as tie
+
+abbrev Inv-loop : tie.InvT-loop
+Inv-loop mem₀ n station far i₀ k₀ mem i k =
+    (i ≤ n) × (length mem ≡ length mem₀) × (k ≡ length (keep (of station) (take i (view mem₀)))) × (view mem ≡ mapped (setFar station far) i (view mem₀))
+
+abbrev μ-loop : tie.MeasureT-loop
+μ-loop mem₀ n station far i₀ k₀ mem i k = n - i
+
+loop-holds : tie.Need-loop-holds Inv-loop μ-loop
+unfolding mapped
+loop-holds c = (omega arith, refl, refl, refl)
+
+mark-requires : tie.Need-mark-requires Inv-loop μ-loop
+mark-requires c κs =
+    let h = c .before .before in
+    let s = h .before .before in
+    let m = now (s .args .mem) in
+    omega (arith, same-capacity (h .loop .mem) m (h .loop .inv .1), kept-le (of (s .args .station)) (view m) (h .loop .i))
+
+add-i : tie.Need-add-i Inv-loop μ-loop
+add-i c = omega arith
+
+loop-less : tie.Need-loop-less Inv-loop μ-loop
+loop-less c = omega arith
+
+loop-again : tie.Need-loop-again Inv-loop μ-loop
+loop-again c =
+    let h = c .before .before .before .before .before in
+    let s = h .before .before in
+    let m = now (s .args .mem) in
+    let vs = view m in
+    let f = setFar (s .args .station) (s .args .far) in
+    let w = view (h .loop .mem) in
+    let i = h .loop .i in
+    let l : i < length vs = omega (arith, length-view m) in
+    let mark = c .before .before .mark in (
+      omega arith,
+      mark .kept .0 ∙ h .loop .inv .1,
+      mark .ensures .0 ∙ count-next (of (s .args .station)) vs w i (h .loop .k) l (h .loop .inv .2) (mapped-at f vs w i l (h .loop .inv .3)),
+      mark .ensures .1 ∙ mapped-next f vs w i l (h .loop .inv .3),
+    )
+
+same-length : tie.Need-same-length Inv-loop μ-loop
+same-length c = c .before .loop .inv .1
+
+returns : tie.Need-returns Inv-loop μ-loop
+returns c =
+    let h = c .before in
+    let e : h .before .before .args .n ≡ h .loop .i = omega arith in
+    rw e (h .loop .inv .2, h .loop .inv .3)
+
+pub mark-all-spec : {M : Type 1} → statement M
+mark-all-spec =
+    tie.close
+    (tie.spec
+    Inv-loop
+    μ-loop
+    loop-holds
+    mark-requires
+    add-i
+    loop-less
+    loop-again
+    same-length
+    returns)

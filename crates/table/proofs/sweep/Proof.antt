@@ -1,0 +1,69 @@
+-- `table::sweep` meets its contract: what stays is the front of the memory, and the rest is made 0. Assumes nothing.
+use Prim.Native.Nat.{_≤_}
+use native.Mathlib.Omega.{arith}
+use mathlib.Core.Path.{_≡_, _∙_}
+use denote.Ref.{now}
+use lib.ListN.{length}
+use Rattle.octets.specs.Lists.{keep}
+use Rattle.record.specs.Record.{capacity}
+use Rattle.table.specs.Memory.{store, records}
+use Rattle.table.specs.Steps.{stays}
+use Rattle.table.proofs.Memory.{held, length-kept, packed-front}
+use borrow.Author.Needs.{needs}
+use Rattle.table.proofs.sweep.Statement.{statement}
+use Rattle.table.proofs.sweep.Tie as tie
+
+cast-n : tie.Need-cast-n
+cast-n c = search needs
+
+compact-requires : tie.Need-compact-requires
+compact-requires c κs =
+    let s = c .before .before .before in
+    let M = store (s .args .s) (now (s .args .mem)) in
+    let k = held M (s .pre) in
+    k .room
+
+clear-requires : tie.Need-clear-requires
+clear-requires c κs = search needs
+
+sub-t12 : tie.Need-sub-t12
+unfolding records
+sub-t12 c =
+    let s = c .before .before .before .before .before .before .before .before .before .before in
+    let M = store (s .args .s) (now (s .args .mem)) in
+    let k = held M (s .pre) in
+    let kept : c .before .before .before .before .before .before .compact .result ≡ length (keep (stays (s .args .rule)) (records M)) = c .before .before .before .before .before .before .compact .ensures .0 in
+    omega (arith, length-kept M k (stays (s .args .rule)))
+
+cast-t13 : tie.Need-cast-t13
+cast-t13 c = search needs
+
+cast-t14 : tie.Need-cast-t14
+unfolding records
+cast-t14 c =
+    let s = c .before .before .before .before .before .before .before .before .before .before in
+    let M = store (s .args .s) (now (s .args .mem)) in
+    let k = held M (s .pre) in
+    let kept : c .before .before .before .before .before .before .compact .result ≡ length (keep (stays (s .args .rule)) (records M)) = c .before .before .before .before .before .before .compact .ensures .0 in
+    omega (arith, length-kept M k (stays (s .args .rule)), k .room, k .capacity-most)
+
+same-length : tie.Need-same-length
+same-length c = search needs
+
+returns : tie.Need-returns
+unfolding records
+returns c =
+    let s = c .before .before .before .before .before .before .before .before .before .before in
+    let M = store (s .args .s) (now (s .args .mem)) in
+    let k = held M (s .pre) in
+    let kept : c .before .before .before .before .before .before .compact .result ≡ length (keep (stays (s .args .rule)) (records M)) = c .before .before .before .before .before .before .compact .ensures .0 in
+    let room : length (keep (stays (s .args .rule)) (records M)) ≤ capacity (now (s .args .mem)) = omega (arith, length-kept M k (stays (s .args .rule)), k .room) in (
+      rw kept,
+      c .before .before .clear .ensures
+          ∙ rw kept (packed-front (now (s .args .mem)) (c .before .before .before .before .before .before .compact .last .0) (keep (stays (s .args .rule)) (records M)) (λ i. c .before .before .before .before .slice-known2 .given i .fits) (k .whole-records) (c .before .before .before .before .before .before .compact .kept .0) room (rw kept at (c .before .before .before .before .before .before .compact .ensures .1))),
+    )
+
+pub sweep-spec : {M : Type 1} → statement M
+sweep-spec =
+    tie.close
+    (tie.spec cast-n compact-requires clear-requires sub-t12 cast-t13 cast-t14 same-length returns)

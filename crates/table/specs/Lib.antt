@@ -1,0 +1,4 @@
+pub mod Table
+pub mod Memory
+pub mod Slots
+pub mod Steps

@@ -1,0 +1,48 @@
+-- A slot's state, as the stored series say.
+use Prim.Native.Nat.{ℕ, _+_}
+use mathlib.Core.Bool.{Bool, cond, not}
+use mathlib.Core.List.{List, [], _∷_}
+use lib.Dec.{eqb}
+use Rattle.octets.specs.Lists.{keep, every}
+use Rattle.octets.specs.Refusals.{firstOf, answer}
+use Rattle.record.specs.declared.Rec.{Rec}
+use Rattle.series.specs.Series.{reserves}
+use Rattle.table.specs.declared.Slot.{Slot}
+use Rattle.table.specs.declared.Slot.the-variants.{Free, Reusable, Taken, Refused}
+use Rattle.table.specs.Table.{Table, Said, timeTests}
+use Rattle.table.specs.Memory.{Store, records, sound, read}
+
+-- a record held as far
+abbrev pub heldFar : Rec → Bool
+heldFar r = eqb (r .far) 1
+
+-- by the records that reserve the slot: free if none does, reusable if some do and all those are far, otherwise taken
+unfoldable pub stateBy : List Rec → Slot
+stateBy [] = Free
+stateBy (r ∷ rs) = cond (every heldFar (r ∷ rs)) Reusable Taken
+
+-- the state of a slot over the records of a table
+unfoldable pub slotState : ℕ → List Rec → ℕ → Slot
+slotState m1 rs slot = stateBy (keep (λ r. reserves m1 r slot) rs)
+
+-- what a slot state gives: the state; refused, its number alone. 11, 12 for a slot behind now, 13 above the limit
+unfoldable pub slotAnswer : Store → ℕ → Slot
+slotAnswer m slot = answer (firstOf ((11, not (sound m)) ∷ timeTests (read m) slot)) (slotState (m .m1) (records m) slot) Refused
+
+-- the number over C: 0 free, 1 reusable, 2 taken; refused, 2,000,000,000 plus the refusal's number
+abbrev pub overC : Slot → ℕ
+overC Free = 0
+overC Reusable = 1
+overC Taken = 2
+overC (Refused n) = 2_000_000_000 + n
+
+-- the same as an answer: the refusal and the number
+abbrev pub said : Slot → Said
+said Free = record { refusal = 0; number = 0 }
+said Reusable = record { refusal = 0; number = 1 }
+said Taken = record { refusal = 0; number = 2 }
+said (Refused n) = record { refusal = n; number = 0 }
+
+-- a slot state as a call that looks at the table
+abbrev pub asks : ℕ → Table → Said
+asks slot t = said (answer (firstOf (timeTests t slot)) (slotState (t .m1) (t .records) slot) Refused)

@@ -1,0 +1,147 @@
+-- Document 01's table over records: which records are good, and of each call what it is refused for, what it changes, what it reports.
+use Prim.Native.Nat.{ℕ, _+_, _^_}
+use mathlib.Core.Bool.{Bool, cond, not, _&&_, _||_}
+use mathlib.Core.List.{List, [], _∷_, _++_, map}
+use lib.Dec.{leb, ltb, eqb}
+use lib.Ieee.{Float}
+use lib.ListN.{length as len}
+use Rattle.octets.specs.Lists.{keep, has}
+use Rattle.octets.specs.Refusals.{within, outside}
+use Rattle.distance.specs.declared.Distance.{Distance}
+use Rattle.distance.specs.Distances.{isFar, limitFits}
+use Rattle.record.specs.declared.Rec.{Rec}
+use Rattle.series.specs.Series.{lastSlot}
+use Rattle.table.specs.declared.Request.{Request}
+
+-- M1, now, the capacity, and the records
+pub record Table : Type 0 where
+  pub m1 : ℕ
+  pub now : ℕ
+  pub capacity : ℕ
+  pub records : List Rec
+
+-- an answer is the refusal number, 0 when accepted, and the number reported
+pub record Said : Type 0 where
+  pub refusal : ℕ
+  pub number : ℕ
+
+-- the calls on an opened table. `look f` is a slot state or a search: it changes nothing, and answers what f makes of the table
+pub data Call : Type 0 where
+  clock : ℕ → Call
+  reserve : Request → Call
+  distance : ℕ → Distance → Float → Call
+  wipe : ℕ → Call
+  look : (Table → Said) → Call
+
+-- ---- a good record
+
+-- station below 2^27, first at most 1,000,000,255, rate 1..60, superframes 1..3, length 1..32, far 0 or 1
+unfoldable pub inRange : Rec → Bool
+inRange r =
+    ltb (r .station) (2 ^ 27)
+    && leb (r .first) 1_000_000_255
+    && within 1 60 (r .rate)
+    && within 1 3 (r .superframes)
+    && within 1 32 (r .length)
+    && leb (r .far) 1
+
+-- last slot not before now
+unfoldable pub lasts : ℕ → ℕ → Rec → Bool
+lasts m1 now r = leb now (lastSlot m1 r)
+
+-- what a sound table asks of each record
+abbrev pub good : ℕ → ℕ → Rec → Bool
+good m1 now r = inRange r && lasts m1 now r
+
+-- ---- what the calls do with records
+
+-- far, as a record holds it
+abbrev pub bit : Bool → ℕ
+bit far = cond far 1 0
+
+-- the record that a reserve adds: first = now + bs
+abbrev pub asked : ℕ → Request → Rec
+asked now q =
+    record {
+      station = q .station;
+      first = now + q .bs;
+      rate = q .rate;
+      superframes = q .superframes;
+      length = q .length;
+      far = bit (isFar (q .distance) (q .limit));
+    }
+
+-- same station, first, rate, superframes, length
+unfoldable pub same : Rec → Rec → Bool
+same a b =
+    eqb (a .station) (b .station)
+    && eqb (a .first) (b .first)
+    && eqb (a .rate) (b .rate)
+    && eqb (a .superframes) (b .superframes)
+    && eqb (a .length) (b .length)
+
+-- the station's own
+abbrev pub of : ℕ → Rec → Bool
+of s r = eqb (r .station) s
+
+-- far rewritten, if the record is the station's
+abbrev pub setFar : ℕ → ℕ → Rec → Rec
+setFar s far r =
+    record {
+      station = r .station;
+      first = r .first;
+      rate = r .rate;
+      superframes = r .superframes;
+      length = r .length;
+      far = cond (of s r) far (r .far);
+    }
+
+-- ---- the calls on a sound table; 11 comes before all of these refusals
+
+-- clock, or slot asked about: 12 behind now, 13 above 1,000,000,000
+abbrev pub timeTests : Table → ℕ → List (ℕ × Bool)
+timeTests t slot = (12, ltb slot (t .now)) ∷ (13, ltb 1_000_000_000 slot) ∷ []
+
+-- a reserve by its numbers: 8, 14, 15, 9, 5, 18
+abbrev pub requestTests : Request → List (ℕ × Bool)
+requestTests q =
+    (8, leb (2 ^ 27) (q .station))
+    ∷ (14, outside 1 60 (q .rate))
+    ∷ (15, eqb (q .superframes) 0)
+    ∷ (9, ltb 3 (q .superframes) || outside 1 32 (q .length))
+    ∷ (5, outside 2 255 (q .bs))
+    ∷ (18, not (limitFits (q .limit)))
+    ∷ []
+
+-- and by the records held: 16 already held, 17 count equals capacity
+abbrev pub placeTests : Table → Rec → List (ℕ × Bool)
+placeTests t r = (16, has (same r) (t .records)) ∷ (17, eqb (len (t .records)) (t .capacity)) ∷ []
+
+-- what a call is refused for, in order
+abbrev pub tests : Table → Call → List (ℕ × Bool)
+tests t (clock slot) = timeTests t slot
+tests t (reserve q) = requestTests q ++ placeTests t (asked (t .now) q)
+tests t (distance s d limit) = (8, leb (2 ^ 27) s) ∷ (18, not (limitFits limit)) ∷ []
+tests t (wipe s) = (8, leb (2 ^ 27) s) ∷ []
+tests t (look f) = (f t .refusal, not (eqb (f t .refusal) 0)) ∷ []
+
+-- the table with other records
+abbrev pub withRecords : Table → List Rec → Table
+withRecords t rs = record { m1 = t .m1; now = t .now; capacity = t .capacity; records = rs }
+
+-- the table that an accepted call leaves
+abbrev pub changed : Table → Call → Table
+changed t (clock slot) =
+    record { m1 = t .m1; now = slot; capacity = t .capacity; records = keep (lasts (t .m1) slot) (t .records) }
+changed t (reserve q) = withRecords t (t .records ++ (asked (t .now) q ∷ []))
+changed t (distance s d limit) = withRecords t (map (setFar s (bit (isFar d limit))) (t .records))
+changed t (wipe s) = withRecords t (keep (λ r. not (of s r)) (t .records))
+changed t (look f) = t
+
+-- the number that an accepted call reports: dropped, 0, held, removed
+abbrev pub reported : Table → Call → ℕ
+reported t (clock slot) = len (keep (λ r. not (lasts (t .m1) slot r)) (t .records))
+reported t (reserve q) = 0
+reported t (distance s d limit) = len (keep (of s) (t .records))
+reported t (wipe s) = len (keep (of s) (t .records))
+reported t (look f) = f t .number

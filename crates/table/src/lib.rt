@@ -1,0 +1,505 @@
+// The reservation table in lent memory: soundness, the calls, and the slot state.
+use distance::Distance;
+use record::Rec;
+ghost use mathlib.Core.Path.{_≡_};
+ghost use mathlib.Core.Bool.{true};
+ghost use Prim.Native.Nat.{_+_, _≤_, _<_};
+ghost use lib.ListN.{length, getD, set, take};
+ghost use Rattle.octets.specs.Lists.{keep, has, every};
+ghost use Rattle.octets.specs.Refusals.{firstOf, within};
+ghost use Rattle.codec.specs.Parameters as Parameters;
+ghost use Rattle.distance.specs.Distances as Distances;
+ghost use Rattle.record.specs.Record.{view, blank, capacity};
+ghost use Rattle.table.specs.Table.{clock, reserve, distance, wipe, good, bit, same, of, setFar, requestTests};
+ghost use Rattle.table.specs.Memory.{store, records, sizeFits, fits, sound, packed, leaves, returned, openLeaves, openReturned};
+ghost use Rattle.table.specs.Slots.{slotState, slotAnswer};
+ghost use Rattle.table.specs.Steps.{stays, sieved, moved, mapped, refused, swept, added, addedMemory};
+
+// What stands beside the lent memory. It travels by value.
+pub struct State {
+    pub m1: u32,
+    pub now: u32,
+    pub count: u32,
+}
+
+// What a call gives: the refusal, 0 for none, the number reported, and the state from here on.
+pub struct Answer {
+    pub refusal: u32,
+    pub number: u32,
+    pub state: State,
+}
+
+// What reserve is given.
+pub struct Request {
+    pub station: u32,
+    pub rate: u32,
+    pub superframes: u32,
+    pub bs: u32,
+    pub length: u32,
+    pub distance: Distance,
+    pub limit: f64,
+}
+
+// A slot's state; refused, its number alone.
+pub enum Slot {
+    Free,
+    Reusable,
+    Taken,
+    Refused(u32),
+}
+
+// Which records stay.
+enum Stay {
+    // Those of another station.
+    Other(u32),
+    // Those not over at a slot, in a table of m1 slots.
+    Live(u32, u32),
+}
+
+// ---- soundness
+
+fn in_range(lo: u8, hi: u8, x: u8) -> bool
+    ensures { λ b. ⌜ b ≡ within lo hi x ⌝ }
+{
+    let low = x < lo;
+    let high = hi < x;
+    !(low | high)
+}
+
+fn is_good(r: Rec, m1: u32, t: u32) -> bool
+    ensures { λ b. ⌜ b ≡ good m1 t r ⌝ }
+{
+    let station = r.station < 134217728;
+    let first = r.first <= 1000000255;
+    let rate = in_range(1, 60, r.rate);
+    let superframes = in_range(1, 3, r.superframes);
+    let length = in_range(1, 32, r.length);
+    let far = r.far <= 1;
+    let last = (t as u64) <= series::last_slot(r, m1);
+    station & first & rate & superframes & length & far & last
+}
+
+// Whether all of the first n records are good.
+fn all_good(mem: &[u8], n: usize, m1: u32, t: u32) -> bool
+    requires { ⌜ n ≤ capacity (now mem) ⌝ }
+    ensures { λ b. ⌜ b ≡ every (good m1 t) (take n (view (now (mem .entry)))) ⌝ }
+{
+    let mut i = 0;
+    while i < n {
+        if !is_good(record::load(mem, i), m1, t) {
+            return false;
+        }
+        i += 1;
+    }
+    true
+}
+
+fn m1_fits(m1: u32) -> bool
+    ensures { λ b. ⌜ b ≡ Parameters.fits 1 m1 ⌝ }
+{
+    codec::parameter(1, m1) == 0
+}
+
+fn size_fits(mem: &[u8]) -> bool
+    ensures { λ b. ⌜ b ≡ sizeFits (now (mem .entry)) ⌝ }
+{
+    let whole = record::whole(mem);
+    let n = record::capacity(mem);
+    let few = n < 1;
+    let many = 2048 < n;
+    whole & !(few | many)
+}
+
+fn numbers_fit(s: State, mem: &[u8]) -> bool
+    ensures { λ b. ⌜ b ≡ fits (store s (now (mem .entry))) ⌝ }
+{
+    let size = size_fits(mem);
+    let m1 = m1_fits(s.m1);
+    let time = s.now <= 1000000000;
+    let n = s.count as usize;
+    let count = n <= record::capacity(mem);
+    size & m1 & time & count
+}
+
+// Whether a table is sound; every call that takes one asks this first.
+pub fn is_sound(s: State, mem: &[u8]) -> bool
+    ensures { λ b. ⌜ b ≡ sound (store s (now (mem .entry))) ⌝ }
+{
+    if numbers_fit(s, mem) {
+        let n = s.count as usize;
+        if all_good(mem, n, s.m1, s.now) {
+            return record::is_clear(mem, n);
+        }
+    }
+    false
+}
+
+// ---- steps of the calls
+
+fn refuse(n: u32, s: State) -> Answer
+    ensures { λ r. ⌜ r ≡ refused n s ⌝ }
+{
+    Answer {
+        refusal: n,
+        number: 0,
+        state: s,
+    }
+}
+
+fn does_stay(rule: Stay, r: Rec) -> bool
+    ensures { λ b. ⌜ b ≡ stays rule r ⌝ }
+{
+    match rule {
+        Stay::Other(station) => r.station != station,
+        Stay::Live(m1, t) => (t as u64) <= series::last_slot(r, m1),
+    }
+}
+
+// Moves record i down to place k, if it stays. The next k.
+fn sift(mem: &mut [u8], i: usize, k: usize, rule: Stay) -> usize
+    requires { ⌜ (k ≤ i) × (i < capacity (now mem)) ⌝ }
+    ensures next { λ r. ⌜ r ≡ sieved (stays rule) (view (now (mem .entry))) i (k + 1) k ⌝ }
+    ensures left { λ _. ⌜ view (now (mem .exit)) ≡ moved (stays rule) (view (now (mem .entry))) i k ⌝ }
+{
+    let r = record::load(mem, i);
+    if does_stay(rule, r) {
+        if k == i {
+            return k + 1;
+        }
+        record::store(mem, k, r);
+        return k + 1;
+    }
+    k
+}
+
+// Moves those of the first n records that stay to the front, in order. How many they are.
+fn compact(mem: &mut [u8], n: usize, rule: Stay) -> usize
+    requires { ⌜ n ≤ capacity (now mem) ⌝ }
+    ensures kept { λ r. ⌜ r ≡ length (keep (stays rule) (take n (view (now (mem .entry))))) ⌝ }
+    ensures front { λ r. ⌜ take r (view (now (mem .exit))) ≡ keep (stays rule) (take n (view (now (mem .entry)))) ⌝ }
+{
+    let mut i = 0;
+    let mut k = 0;
+    while i < n {
+        k = sift(mem, i, k, rule);
+        i += 1;
+    }
+    k
+}
+
+// Keeps the records that stay, closes the gaps and zeros the tail of a sound table, at time t: clock and wipe.
+fn sweep(s: State, mem: &mut [u8], t: u32, rule: Stay) -> Answer
+    requires { ⌜ sound (store s (now mem)) ≡ true ⌝ }
+    ensures answer { λ r. ⌜ r ≡ swept (store s (now (mem .entry))) t (stays rule) ⌝ }
+    ensures memory { λ _. ⌜ now (mem .exit) ≡ packed (capacity (now (mem .entry))) (keep (stays rule) (records (store s (now (mem .entry))))) ⌝ }
+{
+    let n = s.count as usize;
+    let kept = compact(mem, n, rule);
+    record::clear(mem, kept);
+    Answer {
+        refusal: 0,
+        number: (n - kept) as u32,
+        state: State {
+            m1: s.m1,
+            now: t,
+            count: kept as u32,
+        },
+    }
+}
+
+// The station is asked first: it tells most records apart.
+fn is_same(x: Rec, r: Rec) -> bool
+    ensures { λ b. ⌜ b ≡ same x r ⌝ }
+{
+    if x.station == r.station {
+        let first = x.first == r.first;
+        let rate = x.rate == r.rate;
+        let superframes = x.superframes == r.superframes;
+        let length = x.length == r.length;
+        return first & rate & superframes & length;
+    }
+    false
+}
+
+// Whether one of the first n records is the same reservation.
+fn has_same(mem: &[u8], n: usize, x: Rec) -> bool
+    requires { ⌜ n ≤ capacity (now mem) ⌝ }
+    ensures { λ b. ⌜ b ≡ has (same x) (take n (view (now (mem .entry)))) ⌝ }
+{
+    let mut i = 0;
+    while i < n {
+        if is_same(x, record::load(mem, i)) {
+            return true;
+        }
+        i += 1;
+    }
+    false
+}
+
+// Adds a record at the end of a sound table, unless it is held already or there is no room.
+fn add(s: State, mem: &mut [u8], x: Rec) -> Answer
+    requires { ⌜ sound (store s (now mem)) ≡ true ⌝ }
+    ensures answer { λ r. ⌜ r ≡ added (store s (now (mem .entry))) x ⌝ }
+    ensures memory { λ _. ⌜ now (mem .exit) ≡ addedMemory (store s (now (mem .entry))) x ⌝ }
+{
+    let n = s.count as usize;
+    if has_same(mem, n, x) {
+        return refuse(16, s);
+    }
+    let all = record::capacity(mem);
+    if n == all {
+        return refuse(17, s);
+    }
+    record::store(mem, n, x);
+    Answer {
+        refusal: 0,
+        number: 0,
+        state: State {
+            m1: s.m1,
+            now: s.now,
+            count: s.count + 1,
+        },
+    }
+}
+
+// The refusal that the numbers of a request call for, 0 for none.
+fn judge_request(q: Request) -> u32
+    ensures { λ r. ⌜ r ≡ firstOf (requestTests q) ⌝ }
+{
+    let rate = q.rate;
+    let length = q.length;
+    let bs = q.bs;
+    if 134217728 <= q.station {
+        return 8;
+    }
+    if (rate < 1) | (60 < rate) {
+        return 14;
+    }
+    if q.superframes == 0 {
+        return 15;
+    }
+    if (3 < q.superframes) | ((length < 1) | (32 < length)) {
+        return 9;
+    }
+    if (bs < 2) | (255 < bs) {
+        return 5;
+    }
+    if distance::limit_fits(q.limit) {
+        return 0;
+    }
+    18
+}
+
+fn far_bit(d: Distance, limit: f64) -> u8
+    ensures { λ r. ⌜ r ≡ bit (Distances.isFar d limit) ⌝ }
+{
+    if distance::far(d, limit) {
+        return 1;
+    }
+    0
+}
+
+// Rewrites far in record i, where it is the station's. The next k.
+fn mark(mem: &mut [u8], i: usize, k: usize, station: u32, far: u8) -> usize
+    requires { ⌜ (k ≤ i) × (i < capacity (now mem)) ⌝ }
+    ensures next { λ r. ⌜ r ≡ sieved (of station) (view (now (mem .entry))) i (k + 1) k ⌝ }
+    ensures left { λ _. ⌜ view (now (mem .exit)) ≡ set (view (now (mem .entry))) i (setFar station far (getD (view (now (mem .entry))) i blank)) ⌝ }
+{
+    let r = record::load(mem, i);
+    if r.station == station {
+        record::store(
+            mem,
+            i,
+            Rec {
+                station: r.station,
+                first: r.first,
+                rate: r.rate,
+                superframes: r.superframes,
+                length: r.length,
+                far,
+            },
+        );
+        return k + 1;
+    }
+    k
+}
+
+// The same for the first n records. How many are the station's.
+fn mark_all(mem: &mut [u8], n: usize, station: u32, far: u8) -> usize
+    requires { ⌜ n ≤ capacity (now mem) ⌝ }
+    ensures number { λ r. ⌜ r ≡ length (keep (of station) (take n (view (now (mem .entry))))) ⌝ }
+    ensures left { λ _. ⌜ view (now (mem .exit)) ≡ mapped (setFar station far) n (view (now (mem .entry))) ⌝ }
+{
+    let mut i = 0;
+    let mut k = 0;
+    while i < n {
+        k = mark(mem, i, k, station, far);
+        i += 1;
+    }
+    k
+}
+
+// ---- the calls
+
+impl State {
+    // Opens a table of M1 slots in lent memory. Refused, in this order: 10, 1.
+    pub fn open(mem: &mut [u8], m1: u32) -> Answer
+        ensures answer { λ r. ⌜ r ≡ openReturned m1 (now (mem .entry)) ⌝ }
+        ensures memory { λ _. ⌜ now (mem .exit) ≡ openLeaves m1 (now (mem .entry)) .memory ⌝ }
+    {
+        let none = State {
+            m1: 0,
+            now: 0,
+            count: 0,
+        };
+        if m1_fits(m1) {
+            if size_fits(mem) {
+                record::clear(mem, 0);
+                return Answer {
+                    refusal: 0,
+                    number: 0,
+                    state: State {
+                        m1,
+                        now: 0,
+                        count: 0,
+                    },
+                };
+            }
+            return refuse(1, none);
+        }
+        refuse(10, none)
+    }
+
+    // Sets now and drops the records that are over; reports how many. Refused, in this order: 11, 12, 13.
+    pub fn clock(self, mem: &mut [u8], slot: u32) -> Answer
+        ensures answer { λ r. ⌜ r ≡ returned (store self (now (mem .entry))) (clock slot) ⌝ }
+        ensures memory { λ _. ⌜ now (mem .exit) ≡ leaves (store self (now (mem .entry))) (clock slot) .memory ⌝ }
+    {
+        if is_sound(self, mem) {
+            if slot < self.now {
+                return refuse(12, self);
+            }
+            if 1000000000 < slot {
+                return refuse(13, self);
+            }
+            return sweep(self, mem, slot, Stay::Live(self.m1, slot));
+        }
+        refuse(11, self)
+    }
+
+    // Adds one record at the end. Refused, in this order: 11, 8, 14, 15, 9, 5, 18, 16, 17.
+    pub fn reserve(self, mem: &mut [u8], q: Request) -> Answer
+        ensures answer { λ r. ⌜ r ≡ returned (store self (now (mem .entry))) (reserve q) ⌝ }
+        ensures memory { λ _. ⌜ now (mem .exit) ≡ leaves (store self (now (mem .entry))) (reserve q) .memory ⌝ }
+    {
+        if is_sound(self, mem) {
+            let n = judge_request(q);
+            if n == 0 {
+                let d = q.distance;
+                let far = far_bit(d, q.limit);
+                let x = Rec {
+                    station: q.station,
+                    first: self.now + q.bs,
+                    rate: q.rate as u8,
+                    superframes: q.superframes as u8,
+                    length: q.length as u8,
+                    far,
+                };
+                return add(self, mem, x);
+            }
+            return refuse(n, self);
+        }
+        refuse(11, self)
+    }
+
+    // Rewrites far in all the station's records; reports how many it has. Refused, in this order: 11, 8, 18.
+    pub fn distance(self, mem: &mut [u8], station: u32, d: Distance, limit: f64) -> Answer
+        ensures answer { λ r. ⌜ r ≡ returned (store self (now (mem .entry))) (distance station d limit) ⌝ }
+        ensures memory { λ _. ⌜ now (mem .exit) ≡ leaves (store self (now (mem .entry))) (distance station d limit) .memory ⌝ }
+    {
+        if is_sound(self, mem) {
+            if 134217728 <= station {
+                return refuse(8, self);
+            }
+            if distance::limit_fits(limit) {
+                let far = far_bit(d, limit);
+                let n = self.count as usize;
+                let k = mark_all(mem, n, station, far);
+                return Answer {
+                    refusal: 0,
+                    number: k as u32,
+                    state: self,
+                };
+            }
+            return refuse(18, self);
+        }
+        refuse(11, self)
+    }
+
+    // Removes the station's records; reports how many. Refused, in this order: 11, 8.
+    pub fn wipe(self, mem: &mut [u8], station: u32) -> Answer
+        ensures answer { λ r. ⌜ r ≡ returned (store self (now (mem .entry))) (wipe station) ⌝ }
+        ensures memory { λ _. ⌜ now (mem .exit) ≡ leaves (store self (now (mem .entry))) (wipe station) .memory ⌝ }
+    {
+        if is_sound(self, mem) {
+            if 134217728 <= station {
+                return refuse(8, self);
+            }
+            return sweep(self, mem, self.now, Stay::Other(station));
+        }
+        refuse(11, self)
+    }
+}
+
+// ---- the slot state
+
+// How many records there are to look at: the count, as far as the memory goes.
+fn held_count(s: State, mem: &[u8]) -> usize
+    ensures { λ n. ⌜ (n ≤ capacity (now (mem .entry))) × (records (store s (now (mem .entry))) ≡ take n (view (now (mem .entry)))) ⌝ }
+{
+    let n = s.count as usize;
+    let all = record::capacity(mem);
+    if n < all {
+        return n;
+    }
+    all
+}
+
+// The state of any slot by the records held: it neither tests the table nor refuses a slot, and stops at the first near holder.
+pub fn judge(s: State, mem: &[u8], slot: u32) -> Slot
+    ensures { λ r. ⌜ r ≡ slotState (s .m1) (records (store s (now (mem .entry)))) slot ⌝ }
+{
+    let n = held_count(s, mem);
+    let mut any = false;
+    let mut i = 0;
+    while i < n {
+        let r = record::load(mem, i);
+        let holds = series::reserves(r, s.m1, slot);
+        let near = r.far != 1;
+        if holds & near {
+            return Slot::Taken;
+        }
+        any = any | holds;
+        i += 1;
+    }
+    if any {
+        return Slot::Reusable;
+    }
+    Slot::Free
+}
+
+// The slot state. Refused, in this order: 11, 12 for a slot behind now, 13 above the limit.
+pub fn slot_state(s: State, mem: &[u8], slot: u32) -> Slot
+    ensures { λ r. ⌜ r ≡ slotAnswer (store s (now (mem .entry))) slot ⌝ }
+{
+    if is_sound(s, mem) {
+        if slot < s.now {
+            return Slot::Refused(12);
+        }
+        if 1000000000 < slot {
+            return Slot::Refused(13);
+        }
+        return judge(s, mem, slot);
+    }
+    Slot::Refused(11)
+}

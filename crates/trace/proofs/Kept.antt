@@ -1,0 +1,160 @@
+-- The calls over records, without octets: each leaves a sound table sound. Assumes nothing.
+use Prim.Native.Nat.{ℕ, zero, suc, _+_, _*_, _^_, _≤_}
+use native.Mathlib.Nat.{le-trans}
+use native.Mathlib.Omega.{arith}
+use mathlib.Core.Path.{_≡_, refl}
+use mathlib.Core.Bool.{Bool, true, false, cond, not, and-eq-true-iff}
+use mathlib.Core.List.{List, [], _∷_}
+use lib.Dec.{leb, ltb, eqb·suc-zero}
+use lib.ListN.{length as len, replicate, length-append, length-map}
+use borrow.Author.Tests.{ltb-false, leb-false, eqb-false, lt-ltb, le-ltb, le-leb}
+use Rattle.octets.specs.Lists.{keep, every}
+use Rattle.octets.specs.Refusals.{firstOf, answer, outside}
+use Rattle.octets.proofs.Lists.{every-keep, every-kept, every-append, every-map, every-sub, every-and, length-keep}
+use Rattle.octets.proofs.Refusals.{firstOf-zero, or-false, outside-false}
+use Rattle.distance.specs.Distances.{isFar}
+use Rattle.record.specs.Record.{size}
+use Rattle.record.specs.declared.Rec.{Rec}
+use Rattle.series.specs.Series.{lastSlot}
+use Rattle.table.specs.declared.Request.{Request}
+use Rattle.table.specs.Table.{Table, Said, Call, clock, reserve, distance, wipe, look, inRange, lasts, good, bit, asked, setFar, of, tests, changed, reported, withRecords}
+use Rattle.table.specs.Memory.{openRefusal}
+
+-- ---- both ways to go on
+
+-- b is a test's value
+pub by-test : {X : Type 0} (b : Bool) → (b ≡ true → X) → (b ≡ false → X) → X
+by-test true f g = f refl
+by-test false f g = g refl
+
+module _ {A : Type 0} (accepted : A) (refused : ℕ → A) where
+  -- n is a call's refusal
+  pub answer-elim : (P : A → Type 0) (n : ℕ) → (n ≡ 0 → P accepted) → ((n ≡ 0 → ⊥) → P (refused n)) → P (answer n accepted refused)
+  unfolding answer
+  answer-elim P zero a r = a refl
+  answer-elim P (suc n) a r = simp (eqb·suc-zero n) (r (omega arith))
+
+  pub answer-map : {B : Type 0} (f : A → B) (n : ℕ) → answer n (f accepted) (λ k. f (refused k)) ≡ f (answer n accepted refused)
+  unfolding answer
+  answer-map f zero = refl
+  answer-map f (suc n) = simp (eqb·suc-zero n)
+
+-- ---- the calls on a sound table, over records
+
+-- 11 is not among the refusals
+abbrev pub refusalOn : Table → Call → ℕ
+refusalOn t c = firstOf (tests t c)
+
+-- the table that a call leaves
+unfoldable pub after : Table → Call → Table
+after t c = answer (refusalOn t c) (changed t c) (λ _. t)
+
+-- its answer
+unfoldable pub told : Table → Call → Said
+told t c = record { refusal = refusalOn t c; number = answer (refusalOn t c) (reported t c) (λ _. 0) }
+
+-- the same of a sequence
+abbrev pub run : Table → List Call → Table
+run t [] = t
+run t (c ∷ cs) = run (after t c) cs
+
+abbrev pub log : Table → List Call → List (Call × Said)
+log t [] = []
+log t (c ∷ cs) = (c, told t c) ∷ log (after t c) cs
+
+-- a slot state or a search leaves the table, refused or not
+pub after-look : (t : Table) (f : Table → Said) → after t (look f) ≡ t
+unfolding after
+after-look t f = answer-elim t (λ _. t) (λ u. u ≡ t) (refusalOn t (look f)) (λ _. refl) (λ _. refl)
+
+-- ---- a table whose octets are sound
+
+pub record Sound (t : Table) : Type 0 where
+  -- M1 and the capacity are such as an opening accepts
+  pub opens : openRefusal (t .m1) (replicate (t .capacity * size) 0) ≡ 0
+  pub now-most : t .now ≤ 1_000_000_000
+  pub room : len (t .records) ≤ t .capacity
+  pub all-good : every (good (t .m1) (t .now)) (t .records) ≡ true
+
+pub all-in-range : (t : Table) → Sound t → every inRange (t .records) ≡ true
+all-in-range t k =
+    every-sub (good (t .m1) (t .now)) inRange (λ r h. and-eq-true-iff (inRange r) (lasts (t .m1) (t .now) r) .0 h .0) (t .records) (k .all-good)
+
+-- a sound table is sound with other records that are good and have room
+sound-with : (t : Table) (rs : List Rec) → Sound t → len rs ≤ t .capacity → every (good (t .m1) (t .now)) rs ≡ true → Sound (withRecords t rs)
+sound-with t rs k l g = record { opens = k .opens; now-most = k .now-most; room = l; all-good = g }
+
+-- ---- the records that reserve and distance write
+
+bit-most : (far : Bool) → leb (bit far) 1 ≡ true
+bit-most true = refl
+bit-most false = refl
+
+-- what a reserve adds is good: the request's tests are the ranges of a record
+asked-good : (t : Table) (q : Request) → Sound t → refusalOn t (reserve q) ≡ 0 → good (t .m1) (t .now) (asked (t .now) q) ≡ true
+unfolding inRange lasts lastSlot
+asked-good t q k h =
+    let p = firstOf-zero (tests t (reserve q)) refl h in
+    let nine = or-false (ltb 3 (q .superframes)) (outside 1 32 (q .length)) (p .1 .1 .1 .0) in
+    let five = outside-false 2 255 (q .bs) (p .1 .1 .1 .1 .0) in
+    let some = eqb-false (q .superframes) 0 (p .1 .1 .0) in
+    let long = outside-false 1 32 (q .length) (nine .1) in
+    rw (
+      lt-ltb (q .station) (2 ^ 27) (leb-false (2 ^ 27) (q .station) (p .0)),
+      le-leb (t .now + q .bs) 1_000_000_255 (omega (arith, k .now-most)),
+      p .1 .0,
+      le-ltb (q .superframes) 1 (omega arith),
+      nine .0,
+      nine .1,
+      bit-most (isFar (q .distance) (q .limit)),
+    )
+    (le-leb (t .now) (lastSlot (t .m1) (asked (t .now) q)) (unfold lastSlot in omega arith))
+
+far-most : (own far : Bool) (held : ℕ) → leb held 1 ≡ true → leb (cond own (bit far) held) 1 ≡ true
+far-most true far held h = bit-most far
+far-most false far held h = h
+
+-- far rewritten, a good record stays good
+setFar-good : (m1 now s : ℕ) (far : Bool) (r : Rec) → good m1 now r ≡ true → good m1 now (setFar s (bit far) r) ≡ true
+unfolding inRange lasts lastSlot
+setFar-good m1 now s far r h =
+    let p = simp and-eq-true-iff at h in
+    simp and-eq-true-iff ((p .0 .0, far-most (of s r) far (r .far) (p .0 .1)), p .1)
+
+-- ---- a call
+
+pub sound-changed : (t : Table) (c : Call) → Sound t → refusalOn t c ≡ 0 → Sound (changed t c)
+sound-changed t (clock slot) k h =
+    let p = firstOf-zero (tests t (clock slot)) refl h in
+    let stay = lasts (t .m1) slot in
+    record {
+      opens = k .opens;
+      now-most = ltb-false 1_000_000_000 slot (p .1 .0);
+      room = le-trans (length-keep stay (t .records)) (k .room);
+      all-good = every-and inRange stay (keep stay (t .records)) (every-keep inRange stay (t .records) (all-in-range t k)) (every-kept stay (t .records));
+    }
+sound-changed t (reserve q) k h =
+    let p = firstOf-zero (tests t (reserve q)) refl h in
+    let not-full = eqb-false (len (t .records)) (t .capacity) (p .1 .1 .1 .1 .1 .1 .1 .0) in
+    sound-with t _ k
+    (rw length-append (omega (arith, k .room)))
+    (every-append (good (t .m1) (t .now)) (t .records) (asked (t .now) q ∷ []) (k .all-good) (rw (asked-good t q k h)))
+sound-changed t (distance s d limit) k h =
+    let g = good (t .m1) (t .now) in
+    sound-with t _ k
+    (rw length-map (k .room))
+    (every-map g g (setFar s (bit (isFar d limit))) (setFar-good (t .m1) (t .now) s (isFar d limit)) (t .records) (k .all-good))
+sound-changed t (wipe s) k h =
+    let p : Rec → Bool = λ r. not (of s r) in
+    sound-with t _ k
+    (le-trans (length-keep p (t .records)) (k .room))
+    (every-keep (good (t .m1) (t .now)) p (t .records) (k .all-good))
+sound-changed t (look f) k h = k
+
+pub sound-after : (t : Table) (c : Call) → Sound t → Sound (after t c)
+unfolding after
+sound-after t c k = answer-elim (changed t c) (λ _. t) Sound (refusalOn t c) (sound-changed t c k) (λ _. k)
+
+pub sound-run : (t : Table) (cs : List Call) → Sound t → Sound (run t cs)
+sound-run t [] k = k
+sound-run t (c ∷ cs) k = sound-run (after t c) cs (sound-after t c k)

@@ -1,0 +1,7 @@
+pub mod Opening
+pub mod Kept
+pub mod Written
+pub mod Simulation
+pub mod Demand3
+pub mod Looks
+pub mod Marked

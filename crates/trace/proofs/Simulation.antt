@@ -1,0 +1,141 @@
+-- Over records, for any set `gone` of stations: a sequence, with their records taken out at its end, is the sequence without their calls.
+-- One law for each call, then the sequence. Assumes nothing.
+use Prim.Native.Nat.{ℕ}
+use native.Mathlib.Omega.{arith}
+use mathlib.Core.Path.{_≡_, refl, sym, ap, _∙_}
+use mathlib.Core.Bool.{Bool, true, false, not, and-eq-true-iff, true≢false, false≢true}
+use mathlib.Core.List.{List, [], _∷_, _++_, append-nil}
+use lib.Dec.{eqb}
+use lib.ListN.{length as len}
+use borrow.Author.Tests.{eqb-true, eqb-false, ne-eqb, not-true}
+use Rattle.octets.specs.Lists.{keep, has, every}
+use Rattle.octets.specs.Refusals.{firstOf}
+use Rattle.octets.proofs.Lists.{keep-comm, keep-sub, keep-append, keep-map, map-keep, has-keep, length-keep}
+use Rattle.octets.proofs.Refusals.{firstOf-last}
+use Rattle.distance.specs.Distances.{isFar}
+use Rattle.record.specs.declared.Rec.{Rec}
+use Rattle.table.specs.declared.Request.{Request}
+use Rattle.table.specs.Table.{Table, Call, clock, reserve, distance, wipe, look, lasts, bit, asked, same, of, setFar, requestTests, changed, withRecords}
+use Rattle.trace.specs.Sequences.{names, others, without, othersTold, roomy}
+use Rattle.trace.proofs.Kept.{by-test, answer-elim, answer-map, refusalOn, after, after-look, told, run, log, Sound, sound-after}
+
+module _ (gone : ℕ → Bool) where
+  abbrev pub stays : Rec → Bool
+  stays r = not (gone (r .station))
+
+  -- the table without the records of the stations that go
+  abbrev pub left : Table → Table
+  left t = withRecords t (keep stays (t .records))
+
+  of-stays : (s : ℕ) → gone s ≡ false → (r : Rec) → of s r ≡ true → stays r ≡ true
+  of-stays s g r e = rw (eqb-true (r .station) s e, g)
+
+  same-stays : (a : Rec) → gone (a .station) ≡ false → (r : Rec) → same a r ≡ true → stays r ≡ true
+  unfolding same
+  same-stays a g r e =
+      let p = simp and-eq-true-iff at e in
+      let q : a .station ≡ r .station = search eqb-true in
+      rw (← q, g)
+
+  stays-not-of : (s : ℕ) → gone s ≡ true → (r : Rec) → stays r ≡ true → of s r ≡ false
+  stays-not-of s g r e =
+      ne-eqb (r .station) s λ q. true≢false (sym g ∙ ap gone (sym q) ∙ not-true (gone (r .station)) e)
+
+  -- ---- a call of a station that goes: nothing of it is left
+
+  gone-changed : (t : Table) (c : Call) → names gone c ≡ true → left (changed t c) ≡ left t
+  gone-changed t (clock slot) g = absurd (false≢true g)
+  gone-changed t (reserve q) g =
+      ap (withRecords t) (rw (keep-append stays (t .records) (asked (t .now) q ∷ []), g) (append-nil (keep stays (t .records))))
+  gone-changed t (distance s d limit) g =
+      let far = setFar s (bit (isFar d limit)) in
+      ap (withRecords t) (keep-map stays far (λ r. refl) (t .records) ∙ map-keep stays far (λ r e. rw (stays-not-of s g r e)) (t .records))
+  gone-changed t (wipe s) g =
+      ap (withRecords t) (keep-sub stays (λ r. not (of s r)) (λ r e. rw (stays-not-of s g r e)) (t .records))
+  gone-changed t (look f) g = absurd (false≢true g)
+
+  gone-after : (t : Table) (c : Call) → names gone c ≡ true → left (after t c) ≡ left t
+  unfolding after
+  gone-after t c g = answer-elim (changed t c) (λ _. t) (λ u. left u ≡ left t) (refusalOn t c) (λ _. gone-changed t c g) (λ _. refl)
+
+  -- ---- any other call: it does the same to what is left
+
+  kept-changed : (t : Table) (c : Call) → names gone c ≡ false → changed (left t) c ≡ left (changed t c)
+  kept-changed t (clock slot) g =
+      ap (λ rs. record { m1 = t .m1; now = slot; capacity = t .capacity; records = rs }) (keep-comm (lasts (t .m1) slot) stays (t .records))
+  kept-changed t (reserve q) g = ap (withRecords t) (rw (keep-append stays (t .records) (asked (t .now) q ∷ []), g))
+  kept-changed t (distance s d limit) g =
+      ap (withRecords t) (sym (keep-map stays (setFar s (bit (isFar d limit))) (λ r. refl) (t .records)))
+  kept-changed t (wipe s) g = ap (withRecords t) (keep-comm (λ r. not (of s r)) stays (t .records))
+  kept-changed t (look f) g = refl
+
+  -- fewer records leave room where there was some
+  kept-room : (t : Table) → Sound t → eqb (len (t .records)) (t .capacity) ≡ false → eqb (len (left t .records)) (t .capacity) ≡ false
+  kept-room t k e =
+      ne-eqb (len (left t .records)) (t .capacity)
+      (omega (arith, length-keep stays (t .records), eqb-false (len (t .records)) (t .capacity) e, k .room))
+
+  -- a reserve's tests but the last, which is 17
+  abbrev early : Table → Request → List (ℕ × Bool)
+  early t q = requestTests q ++ ((16, has (same (asked (t .now) q)) (t .records)) ∷ [])
+
+  early-left : (t : Table) (q : Request) → gone (q .station) ≡ false → early (left t) q ≡ early t q
+  early-left t q g = rw (has-keep (same (asked (t .now) q)) stays (same-stays (asked (t .now) q) g) (t .records))
+
+  reserve-refusal : (t : Table) (q : Request) → Sound t → gone (q .station) ≡ false → roomy gone (reserve q, told t (reserve q)) ≡ true
+      → refusalOn (left t) (reserve q) ≡ refusalOn t (reserve q)
+  unfolding told
+  reserve-refusal t q k g r =
+      let full = eqb-false (refusalOn t (reserve q)) 17 (not-true (eqb (refusalOn t (reserve q)) 17) (rw g at r)) in
+      ap (λ xs. firstOf (xs ++ ((17, eqb (len (left t .records)) (t .capacity)) ∷ []))) (early-left t q g)
+      ∙ firstOf-last 17 (early t q) (eqb (len (t .records)) (t .capacity)) (eqb (len (left t .records)) (t .capacity)) full (kept-room t k)
+
+  -- the same refusal leaves the same table
+  refusal-after : (t : Table) (c : Call) → names gone c ≡ false → refusalOn (left t) c ≡ refusalOn t c → after (left t) c ≡ left (after t c)
+  unfolding after
+  refusal-after t c g e = rw (e, kept-changed t c g) (answer-map (changed t c) (λ _. t) left (refusalOn t c))
+
+  module _ (t : Table) (k : Sound t) where
+    kept-after : (c : Call) → names gone c ≡ false → roomy gone (c, told t c) ≡ true → after (left t) c ≡ left (after t c)
+    kept-after (clock slot) g r = refusal-after t (clock slot) g refl
+    kept-after (reserve q) g r = refusal-after t (reserve q) g (reserve-refusal t q k g r)
+    kept-after (distance s d limit) g r = refusal-after t (distance s d limit) g refl
+    kept-after (wipe s) g r = refusal-after t (wipe s) g refl
+    kept-after (look f) g r = after-look (left t) f ∙ ap left (sym (after-look t f))
+
+    -- a station that stays is told the same
+    kept-told : (c : Call) → names (others gone) c ≡ true → roomy gone (c, told t c) ≡ true → told (left t) c ≡ told t c
+    unfolding told
+    kept-told (clock slot) n r = absurd (false≢true n)
+    kept-told (reserve q) n r = rw (reserve-refusal t q k (not-true (gone (q .station)) n) (unfold told in r))
+    kept-told (distance s d limit) n r = rw (keep-sub (of s) stays (of-stays s (not-true (gone s) n)) (t .records))
+    kept-told (wipe s) n r = rw (keep-sub (of s) stays (of-stays s (not-true (gone s) n)) (t .records))
+    kept-told (look f) n r = absurd (false≢true n)
+
+  -- ---- the sequence
+
+  -- a station that goes is none of the others
+  names-others : (c : Call) → names gone c ≡ true → names (others gone) c ≡ false
+  names-others (clock slot) g = refl
+  names-others (reserve q) g = rw g
+  names-others (distance s d limit) g = rw g
+  names-others (wipe s) g = rw g
+  names-others (look f) g = refl
+
+  pub run-left : (t : Table) (cs : List Call) → Sound t → every (roomy gone) (log t cs) ≡ true → left (run t cs) ≡ run (left t) (without gone cs)
+  run-left t [] k r = refl
+  run-left t (c ∷ cs) k r =
+      let p = and-eq-true-iff (roomy gone (c, told t c)) (every (roomy gone) (log (after t c) cs)) .0 r in
+      let i = run-left (after t c) cs (sound-after t c k) (p .1) in
+      by-test (names gone c) (λ g. rw (g, i, gone-after t c g)) (λ g. rw (g, i, kept-after t k c g (p .0)))
+
+  pub log-left : (t : Table) (cs : List Call) → Sound t → every (roomy gone) (log t cs) ≡ true
+      → othersTold gone (log t cs) ≡ othersTold gone (log (left t) (without gone cs))
+  log-left t [] k r = refl
+  log-left t (c ∷ cs) k r =
+      let p = and-eq-true-iff (roomy gone (c, told t c)) (every (roomy gone) (log (after t c) cs)) .0 r in
+      let i = log-left (after t c) cs (sound-after t c k) (p .1) in
+      by-test (names gone c)
+      (λ g. rw (g, names-others c g, i, gone-after t c g))
+      (λ g. rw (g, i, kept-after t k c g (p .0))
+      (by-test (names (others gone) c) (λ n. rw (n, kept-told t k c n (p .0))) (λ n. rw n)))

@@ -1,0 +1,155 @@
+-- A sound table is read back from its octets, so the calls over octets are the calls over records. Assumes nothing.
+use Prim.Native.Nat.{ℕ, _-_, _*_, _≤_, zero-le}
+use native.Mathlib.Nat.{div-eq-of-eq-mul-left, mul-mod-left}
+use native.Mathlib.Omega.{arith}
+use mathlib.Core.Path.{_≡_, refl, sym, ap, _∙_}
+use mathlib.Core.Bool.{true, and-eq-true-iff}
+use mathlib.Core.List.{List, [], _∷_}
+use lib.Dec.{lit<}
+use lib.ListN.{length as len, take, replicate, length-append, length-replicate}
+use lib.Seq.{drop-at}
+use borrow.Author.Tests.{ltb-true, leb-true, le-leb}
+use Rattle.octets.specs.Lists.{every}
+use Rattle.octets.specs.Refusals.{within}
+use Rattle.octets.proofs.Zeros.{zeros-replicate}
+use Rattle.octets.proofs.Refusals.{within-true}
+use Rattle.record.specs.Record.{size, capacity, fields, image, whole, rest, view, FitRec, AllFit}
+use Rattle.record.specs.declared.Rec.{Rec}
+use Rattle.record.proofs.Views.{whole-length, length-image, view-front}
+use Rattle.table.specs.Table.{Table, Call, clock, reserve, distance, wipe, look, inRange, changed}
+use Rattle.table.specs.Memory.{Store, records, fits, sound, read, packed, write, refusal, acts, leaves, says, openRefusal, opened}
+use Rattle.table.proofs.Memory.{held}
+use Rattle.trace.proofs.Opening.{open-accepted, open-fits, same-opening}
+use Rattle.table.proofs.Calls.{refusal-sound}
+use Rattle.trace.specs.Sequences.{runs, logs}
+use Rattle.trace.proofs.Kept.{answer-map, refusalOn, after, after-look, told, run, log, Sound, all-in-range, sound-after}
+
+-- ---- records read back
+
+fit : (r : Rec) → inRange r ≡ true → FitRec r
+unfolding inRange fields
+fit r h =
+    let p = simp and-eq-true-iff at h in
+    let rate = within-true 1 60 (r .rate) (p .0 .0 .0 .1) in
+    let superframes = within-true 1 3 (r .superframes) (p .0 .0 .1) in
+    let length = within-true 1 32 (r .length) (p .0 .1) in
+    omega (arith, ltb-true, leb-true)
+
+all-fit : (rs : List Rec) → every inRange rs ≡ true → AllFit rs
+all-fit [] h = tt
+all-fit (r ∷ rs) h =
+    let p = and-eq-true-iff (inRange r) (every inRange rs) .0 h in
+    (fit r (p .0), all-fit rs (p .1))
+
+module _ (cap : ℕ) (rs : List Rec) (h : len rs ≤ cap) where
+  length-packed : len (packed cap rs) ≡ cap * size
+  unfolding packed
+  length-packed = rw (length-append, length-replicate, length-image) (unfold size in omega arith)
+
+  capacity-packed : capacity (packed cap rs) ≡ cap
+  unfolding capacity
+  capacity-packed = div-eq-of-eq-mul-left (unfold size in lit< tt) length-packed
+
+  records-packed : every inRange rs ≡ true → take (len rs) (view (packed cap rs)) ≡ rs
+  unfolding packed
+  records-packed r =
+      view-front rs (replicate ((cap - len rs) * size) 0) (all-fit rs r) (unfold packed in rw capacity-packed h)
+
+rest-packed : (cap : ℕ) (rs : List Rec) → rest (len rs) (packed cap rs) ≡ replicate ((cap - len rs) * size) 0
+unfolding packed
+rest-packed cap rs = drop-at (image rs) (replicate ((cap - len rs) * size) 0) (len rs * size) (length-image rs)
+
+pub read-write : (t : Table) → Sound t → read (write t) ≡ t
+unfolding read write records
+read-write t k =
+    let c = capacity-packed (t .capacity) (t .records) (k .room) in
+    let e = records-packed (t .capacity) (t .records) (k .room) (all-in-range t k) in
+    λ i. record { m1 = t .m1; now = t .now; capacity = c i; records = e i }
+
+-- ---- soundness over octets and over records
+
+pub sound-write : (t : Table) → Sound t → sound (write t) ≡ true
+unfolding sound fits write records
+sound-write t k =
+    let cap = t .capacity in
+    let rs = t .records in
+    let blank : List ℕ = replicate (cap * size) 0 in
+    let l : len (packed cap rs) ≡ len blank = length-packed cap rs (k .room) ∙ sym (length-replicate (cap * size) 0) in
+    let o = open-fits (t .m1) (packed cap rs) (same-opening (t .m1) (packed cap rs) blank l ∙ k .opens) in
+    rw (
+      o .0,
+      o .1,
+      capacity-packed cap rs (k .room),
+      le-leb (t .now) 1_000_000_000 (k .now-most),
+      le-leb (len rs) cap (k .room),
+      records-packed cap rs (k .room) (all-in-range t k),
+      k .all-good,
+      rest-packed cap rs,
+    )
+    (zeros-replicate ((cap - len rs) * size))
+
+-- a memory of zeros is opened as one of the same size is
+blank-opens : (m1 : ℕ) (b : List ℕ) → len b ≡ capacity b * size → openRefusal m1 b ≡ 0 → openRefusal m1 (replicate (capacity b * size) 0) ≡ 0
+blank-opens m1 b e o =
+    let n = capacity b * size in
+    same-opening m1 (replicate n 0) b (length-replicate n 0 ∙ sym e) ∙ o
+
+pub sound-read : (m : Store) → sound m ≡ true → Sound (read m)
+unfolding read
+sound-read m h =
+    let k = held m h in
+    record {
+      opens = blank-opens (m .m1) (m .memory) (k .whole-records) (open-accepted (m .m1) (m .memory) (k .m1-fits) (rw (k .whole-records, mul-mod-left, k .capacity-fits)));
+      now-most = k .now-most;
+      room = rw (k .counted) (k .room);
+      all-good = k .all-good;
+    }
+
+-- ---- a call, and a sequence
+
+module _ (t : Table) (k : Sound t) where
+  refusal-write : (c : Call) → refusal (write t) c ≡ refusalOn t c
+  refusal-write c = refusal-sound (write t) c (sound-write t k) ∙ ap (λ u. refusalOn u c) (read-write t k)
+
+  acts-write : (c : Call) → acts (write t) c ≡ write (after t c)
+  unfolding after
+  acts-write c = rw (refusal-write c, read-write t k) (answer-map (changed t c) (λ _. t) write (refusalOn t c))
+
+  pub leaves-write : (c : Call) → leaves (write t) c ≡ write (after t c)
+  unfolding leaves
+  leaves-write (clock slot) = acts-write (clock slot)
+  leaves-write (reserve q) = acts-write (reserve q)
+  leaves-write (distance s d limit) = acts-write (distance s d limit)
+  leaves-write (wipe s) = acts-write (wipe s)
+  leaves-write (look f) = ap write (sym (after-look t f))
+
+  says-write : (c : Call) → says (write t) c ≡ told t c
+  unfolding says told
+  says-write c = rw (refusal-write c, read-write t k)
+
+pub runs-write : (t : Table) → Sound t → (cs : List Call) → runs (write t) cs ≡ write (run t cs)
+runs-write t k [] = refl
+runs-write t k (c ∷ cs) = rw (leaves-write t k c, runs-write (after t c) (sound-after t c k) cs)
+
+pub logs-write : (t : Table) → Sound t → (cs : List Call) → logs (write t) cs ≡ log t cs
+logs-write t k [] = refl
+logs-write t k (c ∷ cs) = rw (leaves-write t k c, says-write t k c, logs-write (after t c) (sound-after t c k) cs)
+
+-- ---- an accepted opening
+
+-- the table that it leaves
+abbrev pub empty : ℕ → List ℕ → Table
+empty m1 b = record { m1 = m1; now = 0; capacity = capacity b; records = [] }
+
+module _ (m1 : ℕ) (b : List ℕ) (o : openRefusal m1 b ≡ 0) where
+  whole-octets : len b ≡ capacity b * size
+  whole-octets = whole-length b (and-eq-true-iff (whole b) (within 1 2048 (capacity b)) .0 (open-fits m1 b o .1) .0)
+
+  pub sound-empty : Sound (empty m1 b)
+  sound-empty = record { opens = blank-opens m1 b whole-octets o; now-most = zero-le; room = zero-le; all-good = refl }
+
+  pub opened-write : opened m1 b ≡ write (empty m1 b)
+  unfolding write packed image
+  opened-write =
+      let e : (capacity b - 0) * size ≡ len b = unfold size in omega (arith, whole-octets) in
+      rw e

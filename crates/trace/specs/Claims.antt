@@ -1,0 +1,107 @@
+-- What is claimed of the calls together, besides each function's promise. `claims` in src/lib.rt promises all of it.
+use Prim.Native.Nat.{ℕ}
+use mathlib.Core.Path.{_≡_}
+use mathlib.Core.Bool.{true}
+use mathlib.Core.List.{List, [], _∷_}
+use lib.ListN.{replicate}
+use Rattle.octets.specs.Lists.{every}
+use Rattle.octets.specs.Refusals.{firstOf}
+use Rattle.distance.specs.declared.Distance.the-variants.{Unknown}
+use Rattle.distance.specs.Distances.{num}
+use Rattle.series.specs.Claims.{recordT}
+use Rattle.table.specs.declared.State.{State}
+use Rattle.table.specs.declared.Answer.{Answer}
+use Rattle.table.specs.declared.Request.{Request}
+use Rattle.table.specs.declared.Slot.the-variants.{Free, Taken}
+use Rattle.table.specs.Table.{Said, Call, clock, reserve, wipe, look, tests}
+use Rattle.table.specs.Memory.{Store, store, records, sound, read, leaves, says, returned, openRefusal, opened, openLeaves, openReturned}
+use Rattle.table.specs.Slots.{slotAnswer, said, asks}
+use Rattle.trace.specs.Sequences.{runs, logs, is, without, othersTold, roomy, Made}
+
+-- ---- demand 3
+
+-- Take any sequence of calls on one table after its one accepted opening, in which no other station's reservation was refused because
+-- the table was full. Wipe station A at the end. The table's octets, clock and count (a `Store` is all of them, with M1) are those of
+-- the same sequence without A's calls. Every reserve, distance and wipe answer given to other stations is the same in both.
+abbrev pub WipedWithoutTrace : Type 0
+WipedWithoutTrace =
+    (m1 : ℕ) (b : List ℕ) → openRefusal m1 b ≡ 0 → (A : ℕ) (cs : List Call)
+    → every (roomy (is A)) (logs (opened m1 b) cs) ≡ true
+    → (leaves (runs (opened m1 b) cs) (wipe A) ≡ runs (opened m1 b) (without (is A) cs))
+    × (othersTold (is A) (logs (opened m1 b) cs) ≡ othersTold (is A) (logs (opened m1 b) (without (is A) cs)))
+
+-- The same over real calls, of which nothing is known but what the functions promise: an opening o that leaves z; the sequence, and a wipe w
+-- of A that leaves v; and, from the same opening, the sequence without A's calls.
+abbrev pub RealCalls : Type 0
+RealCalls =
+    (m1 : ℕ) (b : List ℕ) (o : Answer) (z : List ℕ) → o ≡ openReturned m1 b → z ≡ openLeaves m1 b .memory → o .refusal ≡ 0
+    → (A : ℕ) (cs : List Call) (s t : State) (x y : List ℕ) (es fs : List (Call × Said))
+    → Made (o .state) z cs s x es → Made (o .state) z (without (is A) cs) t y fs
+    → (w : Answer) (v : List ℕ) → w ≡ returned (store s x) (wipe A) → v ≡ leaves (store s x) (wipe A) .memory
+    → every (roomy (is A)) es ≡ true
+    → (w .state ≡ t) × (v ≡ y) × (othersTold (is A) es ≡ othersTold (is A) fs)
+
+-- ---- soundness
+
+-- an accepted opening leaves a sound table, and every call leaves a sound table sound
+abbrev pub SoundOpened : Type 0
+SoundOpened = (m1 : ℕ) (b : List ℕ) → openRefusal m1 b ≡ 0 → sound (opened m1 b) ≡ true
+
+abbrev pub SoundKept : Type 0
+SoundKept = (m : Store) (c : Call) → sound m ≡ true → sound (leaves m c) ≡ true
+
+-- so after an accepted opening the table is sound at every call, and a refusal is one of the call's own tests: 11 never comes
+abbrev pub NeverUnsound : Type 0
+NeverUnsound =
+    (m1 : ℕ) (b : List ℕ) → openRefusal m1 b ≡ 0 → (cs : List Call) (c : Call)
+    → (sound (runs (opened m1 b) cs) ≡ true)
+    × (says (runs (opened m1 b) cs) c .refusal ≡ firstOf (tests (read (runs (opened m1 b) cs)) c))
+
+-- ---- refusals and results
+
+-- a refused call leaves every octet and the state, and reports 0
+abbrev pub RefusedChangesNothing : Type 0
+RefusedChangesNothing = (m : Store) (c : Call) → (says m c .refusal ≡ 0 → ⊥) → (leaves m c ≡ m) × (says m c .number ≡ 0)
+
+-- any two results that a call's promise allows are equal: what it returns, and the memory at exit
+abbrev pub OneResult : Type 0
+OneResult =
+    (s : State) (b : List ℕ) (c : Call) (r q : Answer) (x y : List ℕ)
+    → r ≡ returned (store s b) c → x ≡ leaves (store s b) c .memory
+    → q ≡ returned (store s b) c → y ≡ leaves (store s b) c .memory
+    → (r ≡ q) × (x ≡ y)
+
+-- the slot state answers as the call `look` that stands for it in a sequence
+abbrev pub SlotStateLooks : Type 0
+SlotStateLooks = (m : Store) (slot : ℕ) → said (slotAnswer m slot) ≡ says m (look (asks slot))
+
+-- ---- the marked cases of record T
+
+-- T, alone in its table: station 1, M1 4500, now 100, bs 5, rate 3, superframes 2, length 5, near
+abbrev pub requestT : Request
+requestT = record { station = 1; rate = 3; superframes = 2; bs = 5; length = 5; distance = Unknown; limit = num 150 }
+
+abbrev pub tableT : Store
+tableT = runs (opened 4500 (replicate 12 0)) (clock 100 ∷ reserve requestT ∷ [])
+
+pub record MarkedCases : Type 0 where
+  pub alone : records tableT ≡ recordT ∷ []
+  -- P6: slots 104 and 110 free, 105 and 109 taken
+  pub free104 : slotAnswer tableT 104 ≡ Free
+  pub taken105 : slotAnswer tableT 105 ≡ Taken
+  pub taken109 : slotAnswer tableT 109 ≡ Taken
+  pub free110 : slotAnswer tableT 110 ≡ Free
+  -- P7: kept at clock 7609, gone at 7610
+  pub kept7609 : records (leaves tableT (clock 7609)) ≡ recordT ∷ []
+  pub gone7610 : records (leaves tableT (clock 7610)) ≡ []
+
+pub record Claims : Type 0 where
+  pub wiped-without-trace : WipedWithoutTrace
+  pub real-calls : RealCalls
+  pub sound-opened : SoundOpened
+  pub sound-kept : SoundKept
+  pub never-unsound : NeverUnsound
+  pub refused-changes-nothing : RefusedChangesNothing
+  pub one-result : OneResult
+  pub slot-state-looks : SlotStateLooks
+  pub marked : MarkedCases
