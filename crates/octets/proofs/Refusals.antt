@@ -1,5 +1,6 @@
 -- Laws of `firstOf` and `answer`: which refusal a call gets, and what it gives by it; and what a test tells. Assumes nothing.
 use Prim.Native.Nat.{ℕ, zero, suc, _≤_, zero-le}
+use native.Mathlib.Omega.{arith}
 use mathlib.Core.Path.{_≡_, refl, sym, _∙_}
 use mathlib.Core.Bool.{Bool, true, false, cond, not, _&&_, _||_, true≢false, false≢true, and-eq-true-iff}
 use mathlib.Core.List.{List, [], _∷_, _++_}
@@ -89,6 +90,17 @@ module _ {A : Type 0} (accepted : A) (refused : ℕ → A) where
   unfolding answer
   answer-accepted e = simp (← e)
 
+  -- both ways to go on
+  pub answer-elim : (P : A → Type 0) (n : ℕ) → (n ≡ 0 → P accepted) → ((n ≡ 0 → ⊥) → P (refused n)) → P (answer n accepted refused)
+  unfolding answer
+  answer-elim P zero a r = a refl
+  answer-elim P (suc n) a r = simp (eqb·suc-zero n) (r (omega arith))
+
+  pub answer-map : {B : Type 0} (f : A → B) (n : ℕ) → answer n (f accepted) (λ k. f (refused k)) ≡ f (answer n accepted refused)
+  unfolding answer
+  answer-map f zero = refl
+  answer-map f (suc n) = simp (eqb·suc-zero n)
+
   -- an answer that says its refusal says the call's
   pub answer-says : (said : A → ℕ) → said accepted ≡ 0 → ((n : ℕ) → said (refused n) ≡ n) → (n : ℕ) → said (answer n accepted refused) ≡ n
   unfolding answer
@@ -96,6 +108,11 @@ module _ {A : Type 0} (accepted : A) (refused : ℕ → A) where
   answer-says said a r (suc n) = simp (eqb·suc-zero n) (r (suc n))
 
 -- ---- what a test tells
+
+-- both ways to go on from a test's value
+pub by-test : {X : Type 0} (b : Bool) → (b ≡ true → X) → (b ≡ false → X) → X
+by-test true f g = f refl
+by-test false f g = g refl
 
 pub or-false : (a b : Bool) → (a || b) ≡ false → (a ≡ false) × (b ≡ false)
 or-false true b h = absurd (true≢false h)

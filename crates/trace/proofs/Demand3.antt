@@ -9,7 +9,7 @@ use borrow.Author.Tests.{ltb-true, leb-true, ne-eqb}
 use Rattle.octets.specs.Lists.{every}
 use Rattle.octets.specs.Refusals.{answer}
 use Rattle.octets.proofs.Lists.{keep-every, every-sub}
-use Rattle.octets.proofs.Refusals.{answer-refused}
+use Rattle.octets.proofs.Refusals.{answer-refused, by-test, answer-elim}
 use Rattle.record.specs.declared.Rec.{Rec}
 use Rattle.table.specs.declared.State.{State}
 use Rattle.table.specs.declared.Answer.{Answer}
@@ -18,7 +18,7 @@ use Rattle.table.specs.Memory.{Store, store, stateOf, sound, read, write, refus
 use Rattle.table.proofs.Calls.{refusal-sound, refused-leaves}
 use Rattle.trace.specs.Sequences.{runs, logs, is, without, roomy, saidBy, Made, none, made}
 use Rattle.trace.specs.Claims.{WipedWithoutTrace, RealCalls, SoundOpened, SoundKept, NeverUnsound, RefusedChangesNothing, OneResult}
-use Rattle.trace.proofs.Kept.{by-test, answer-elim, after, run, log, Sound, all-in-range, sound-changed, sound-run}
+use Rattle.trace.proofs.Kept.{after, run, log, Sound, all-in-range, sound-changed, sound-run}
 use Rattle.trace.proofs.Written.{sound-write, sound-read, leaves-write, runs-write, logs-write, empty, sound-empty, opened-write}
 use Rattle.trace.proofs.Simulation.{stays, left, run-left, log-left}
 

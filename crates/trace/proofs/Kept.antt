@@ -1,43 +1,23 @@
 -- The calls over records, without octets: each leaves a sound table sound. Assumes nothing.
-use Prim.Native.Nat.{ℕ, zero, suc, _+_, _*_, _^_, _≤_}
+use Prim.Native.Nat.{ℕ, _+_, _^_, _≤_}
 use native.Mathlib.Nat.{le-trans}
 use native.Mathlib.Omega.{arith}
 use mathlib.Core.Path.{_≡_, refl}
 use mathlib.Core.Bool.{Bool, true, false, cond, not, and-eq-true-iff}
 use mathlib.Core.List.{List, [], _∷_}
-use lib.Dec.{leb, ltb, eqb·suc-zero}
-use lib.ListN.{length as len, replicate, length-append, length-map}
+use lib.Dec.{leb, ltb}
+use lib.ListN.{length as len, length-append, length-map}
 use borrow.Author.Tests.{ltb-false, leb-false, eqb-false, lt-ltb, le-ltb, le-leb}
 use Rattle.octets.specs.Lists.{keep, every}
-use Rattle.octets.specs.Refusals.{firstOf, answer, outside}
+use Rattle.octets.specs.Refusals.{firstOf, answer, outside, within}
 use Rattle.octets.proofs.Lists.{every-keep, every-kept, every-append, every-map, every-sub, every-and, length-keep}
-use Rattle.octets.proofs.Refusals.{firstOf-zero, or-false, outside-false}
+use Rattle.octets.proofs.Refusals.{firstOf-zero, or-false, outside-false, answer-elim}
+use Rattle.codec.specs.Parameters as Parameters
 use Rattle.distance.specs.Distances.{isFar}
-use Rattle.record.specs.Record.{size}
 use Rattle.record.specs.declared.Rec.{Rec}
 use Rattle.series.specs.Series.{lastSlot}
 use Rattle.table.specs.declared.Request.{Request}
 use Rattle.table.specs.Table.{Table, Said, Call, clock, reserve, distance, wipe, look, inRange, lasts, good, bit, asked, setFar, of, tests, changed, reported, withRecords}
-use Rattle.table.specs.Memory.{openRefusal}
-
--- ---- both ways to go on
-
--- b is a test's value
-pub by-test : {X : Type 0} (b : Bool) → (b ≡ true → X) → (b ≡ false → X) → X
-by-test true f g = f refl
-by-test false f g = g refl
-
-module _ {A : Type 0} (accepted : A) (refused : ℕ → A) where
-  -- n is a call's refusal
-  pub answer-elim : (P : A → Type 0) (n : ℕ) → (n ≡ 0 → P accepted) → ((n ≡ 0 → ⊥) → P (refused n)) → P (answer n accepted refused)
-  unfolding answer
-  answer-elim P zero a r = a refl
-  answer-elim P (suc n) a r = simp (eqb·suc-zero n) (r (omega arith))
-
-  pub answer-map : {B : Type 0} (f : A → B) (n : ℕ) → answer n (f accepted) (λ k. f (refused k)) ≡ f (answer n accepted refused)
-  unfolding answer
-  answer-map f zero = refl
-  answer-map f (suc n) = simp (eqb·suc-zero n)
 
 -- ---- the calls on a sound table, over records
 
@@ -70,8 +50,8 @@ after-look t f = answer-elim t (λ _. t) (λ u. u ≡ t) (refusalOn t (look f)) 
 -- ---- a table whose octets are sound
 
 pub record Sound (t : Table) : Type 0 where
-  -- M1 and the capacity are such as an opening accepts
-  pub opens : openRefusal (t .m1) (replicate (t .capacity * size) 0) ≡ 0
+  pub m1-fits : Parameters.fits 1 (t .m1) ≡ true
+  pub capacity-fits : within 1 2048 (t .capacity) ≡ true
   pub now-most : t .now ≤ 1_000_000_000
   pub room : len (t .records) ≤ t .capacity
   pub all-good : every (good (t .m1) (t .now)) (t .records) ≡ true
@@ -82,7 +62,7 @@ all-in-range t k =
 
 -- a sound table is sound with other records that are good and have room
 sound-with : (t : Table) (rs : List Rec) → Sound t → len rs ≤ t .capacity → every (good (t .m1) (t .now)) rs ≡ true → Sound (withRecords t rs)
-sound-with t rs k l g = record { opens = k .opens; now-most = k .now-most; room = l; all-good = g }
+sound-with t rs k l g = record { m1-fits = k .m1-fits; capacity-fits = k .capacity-fits; now-most = k .now-most; room = l; all-good = g }
 
 -- ---- the records that reserve and distance write
 
@@ -128,7 +108,8 @@ sound-changed t (clock slot) k h =
     let p = firstOf-zero (tests t (clock slot)) refl h in
     let stay = lasts (t .m1) slot in
     record {
-      opens = k .opens;
+      m1-fits = k .m1-fits;
+      capacity-fits = k .capacity-fits;
       now-most = ltb-false 1_000_000_000 slot (p .1 .0);
       room = le-trans (length-keep stay (t .records)) (k .room);
       all-good = every-and inRange stay (keep stay (t .records)) (every-keep inRange stay (t .records) (all-in-range t k)) (every-kept stay (t .records));

@@ -6,6 +6,7 @@ use mathlib.Core.List.{List, [], _∷_}
 use lib.Dec.{eqb, eqb·suc-zero}
 use Rattle.octets.specs.Lists.{keep, every}
 use Rattle.octets.specs.Refusals.{firstOf, answer}
+use Rattle.octets.proofs.Refusals.{by-test}
 use Rattle.record.specs.declared.Rec.{Rec}
 use Rattle.series.specs.Series.{reserves}
 use Rattle.table.specs.declared.Slot.{Slot}
@@ -14,7 +15,7 @@ use Rattle.table.specs.Table.{Table, Said, timeTests}
 use Rattle.table.specs.Memory.{Store, sound, read, write, refusal, says}
 use Rattle.table.specs.Slots.{heldFar, stateBy, slotState, slotAnswer, said, asks}
 use Rattle.trace.specs.Claims.{SlotStateLooks}
-use Rattle.trace.proofs.Kept.{by-test, Sound}
+use Rattle.trace.proofs.Kept.{Sound}
 use Rattle.trace.proofs.Written.{read-write, sound-write}
 
 -- what a slot state gives on a sound table

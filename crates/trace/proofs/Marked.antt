@@ -5,13 +5,13 @@ use mathlib.Core.List.{List, [], _∷_}
 use lib.Ieee.{ofInt, le}
 use lib.ListN.{replicate}
 use Rattle.octets.specs.Refusals.{answer}
+use Rattle.codec.specs.Parameters as Parameters
 use Rattle.record.specs.Record.{size, capacity}
 use Rattle.series.specs.Series.{someBelow, inBlock, reserves, lastSlot}
 use Rattle.series.specs.Claims.{recordT}
 use Rattle.table.specs.Table.{Table, Call, clock, reserve, lasts}
 use Rattle.table.specs.Memory.{records, read, write, leaves, openRefusal}
 use Rattle.table.specs.Slots.{stateBy, slotState, slotAnswer}
-use Rattle.trace.proofs.Opening.{open-accepted, default-fits}
 use Rattle.trace.specs.Claims.{requestT, tableT, MarkedCases}
 use Rattle.trace.proofs.Kept.{after, run, Sound, sound-run, sound-after}
 use Rattle.trace.proofs.Written.{read-write, leaves-write, runs-write, empty, sound-empty, opened-write}
@@ -24,7 +24,8 @@ abbrev lent : List ℕ
 lent = replicate 12 0
 
 accepted : openRefusal 4500 lent ≡ 0
-accepted = open-accepted 4500 lent default-fits (unfold capacity size in refl)
+unfolding openRefusal Parameters.fits capacity size
+accepted = refl
 
 -- the calls that bring T, and the table then, over records
 abbrev calls : List Call

@@ -11,13 +11,13 @@ use borrow.Author.Tests.{eqb-true, eqb-false, ne-eqb, not-true}
 use Rattle.octets.specs.Lists.{keep, has, every}
 use Rattle.octets.specs.Refusals.{firstOf}
 use Rattle.octets.proofs.Lists.{keep-comm, keep-sub, keep-append, keep-map, map-keep, has-keep, length-keep}
-use Rattle.octets.proofs.Refusals.{firstOf-last}
+use Rattle.octets.proofs.Refusals.{firstOf-last, by-test, answer-elim, answer-map}
 use Rattle.distance.specs.Distances.{isFar}
 use Rattle.record.specs.declared.Rec.{Rec}
 use Rattle.table.specs.declared.Request.{Request}
 use Rattle.table.specs.Table.{Table, Call, clock, reserve, distance, wipe, look, lasts, bit, asked, same, of, setFar, requestTests, changed, withRecords}
 use Rattle.trace.specs.Sequences.{names, others, without, othersTold, roomy}
-use Rattle.trace.proofs.Kept.{by-test, answer-elim, answer-map, refusalOn, after, after-look, told, run, log, Sound, sound-after}
+use Rattle.trace.proofs.Kept.{refusalOn, after, after-look, told, run, log, Sound, sound-after}
 
 module _ (gone : ℕ → Bool) where
   abbrev pub stays : Rec → Bool

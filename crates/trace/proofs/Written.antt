@@ -1,28 +1,28 @@
 -- A sound table is read back from its octets, so the calls over octets are the calls over records. Assumes nothing.
-use Prim.Native.Nat.{ℕ, _-_, _*_, _≤_, zero-le}
+use Prim.Native.Nat.{ℕ, _-_, _*_, _%_, _≤_, zero-le}
 use native.Mathlib.Nat.{div-eq-of-eq-mul-left, mul-mod-left}
 use native.Mathlib.Omega.{arith}
 use mathlib.Core.Path.{_≡_, refl, sym, ap, _∙_}
-use mathlib.Core.Bool.{true, and-eq-true-iff}
+use mathlib.Core.Bool.{true, not, and-eq-true-iff}
 use mathlib.Core.List.{List, [], _∷_}
 use lib.Dec.{lit<}
 use lib.ListN.{length as len, take, replicate, length-append, length-replicate}
 use lib.Seq.{drop-at}
-use borrow.Author.Tests.{ltb-true, leb-true, le-leb}
+use borrow.Author.Tests.{ltb-true, leb-true, le-leb, not-false}
 use Rattle.octets.specs.Lists.{every}
 use Rattle.octets.specs.Refusals.{within}
 use Rattle.octets.proofs.Zeros.{zeros-replicate}
-use Rattle.octets.proofs.Refusals.{within-true}
+use Rattle.octets.proofs.Refusals.{firstOf-zero, answer-map, within-true}
+use Rattle.codec.specs.Parameters as Parameters
 use Rattle.record.specs.Record.{size, capacity, fields, image, whole, rest, view, FitRec, AllFit}
 use Rattle.record.specs.declared.Rec.{Rec}
 use Rattle.record.proofs.Views.{whole-length, length-image, view-front}
 use Rattle.table.specs.Table.{Table, Call, clock, reserve, distance, wipe, look, inRange, changed}
-use Rattle.table.specs.Memory.{Store, records, fits, sound, read, packed, write, refusal, acts, leaves, says, openRefusal, opened}
+use Rattle.table.specs.Memory.{Store, records, fits, sound, read, packed, write, refusal, acts, leaves, says, sizeFits, openRefusal, opened}
 use Rattle.table.proofs.Memory.{held}
-use Rattle.trace.proofs.Opening.{open-accepted, open-fits, same-opening}
 use Rattle.table.proofs.Calls.{refusal-sound}
 use Rattle.trace.specs.Sequences.{runs, logs}
-use Rattle.trace.proofs.Kept.{answer-map, refusalOn, after, after-look, told, run, log, Sound, all-in-range, sound-after}
+use Rattle.trace.proofs.Kept.{refusalOn, after, after-look, told, run, log, Sound, all-in-range, sound-after}
 
 -- ---- records read back
 
@@ -73,13 +73,12 @@ unfolding sound fits write records
 sound-write t k =
     let cap = t .capacity in
     let rs = t .records in
-    let blank : List ℕ = replicate (cap * size) 0 in
-    let l : len (packed cap rs) ≡ len blank = length-packed cap rs (k .room) ∙ sym (length-replicate (cap * size) 0) in
-    let o = open-fits (t .m1) (packed cap rs) (same-opening (t .m1) (packed cap rs) blank l ∙ k .opens) in
+    let w : len (packed cap rs) % size ≡ 0 = rw (length-packed cap rs (k .room)) (mul-mod-left cap size) in
     rw (
-      o .0,
-      o .1,
+      w,
       capacity-packed cap rs (k .room),
+      k .capacity-fits,
+      k .m1-fits,
       le-leb (t .now) 1_000_000_000 (k .now-most),
       le-leb (len rs) cap (k .room),
       records-packed cap rs (k .room) (all-in-range t k),
@@ -88,22 +87,11 @@ sound-write t k =
     )
     (zeros-replicate ((cap - len rs) * size))
 
--- a memory of zeros is opened as one of the same size is
-blank-opens : (m1 : ℕ) (b : List ℕ) → len b ≡ capacity b * size → openRefusal m1 b ≡ 0 → openRefusal m1 (replicate (capacity b * size) 0) ≡ 0
-blank-opens m1 b e o =
-    let n = capacity b * size in
-    same-opening m1 (replicate n 0) b (length-replicate n 0 ∙ sym e) ∙ o
-
 pub sound-read : (m : Store) → sound m ≡ true → Sound (read m)
 unfolding read
 sound-read m h =
     let k = held m h in
-    record {
-      opens = blank-opens (m .m1) (m .memory) (k .whole-records) (open-accepted (m .m1) (m .memory) (k .m1-fits) (rw (k .whole-records, mul-mod-left, k .capacity-fits)));
-      now-most = k .now-most;
-      room = rw (k .counted) (k .room);
-      all-good = k .all-good;
-    }
+    record { m1-fits = k .m1-fits; capacity-fits = k .capacity-fits; now-most = k .now-most; room = rw (k .counted) (k .room); all-good = k .all-good }
 
 -- ---- a call, and a sequence
 
@@ -142,14 +130,19 @@ abbrev pub empty : ℕ → List ℕ → Table
 empty m1 b = record { m1 = m1; now = 0; capacity = capacity b; records = [] }
 
 module _ (m1 : ℕ) (b : List ℕ) (o : openRefusal m1 b ≡ 0) where
-  whole-octets : len b ≡ capacity b * size
-  whole-octets = whole-length b (and-eq-true-iff (whole b) (within 1 2048 (capacity b)) .0 (open-fits m1 b o .1) .0)
+  open-fits : (Parameters.fits 1 m1 ≡ true) × (whole b ≡ true) × (within 1 2048 (capacity b) ≡ true)
+  unfolding openRefusal
+  open-fits =
+      let p = firstOf-zero ((10, not (Parameters.fits 1 m1)) ∷ (1, not (sizeFits b)) ∷ []) refl o in
+      let size = and-eq-true-iff (whole b) (within 1 2048 (capacity b)) .0 (not-false (sizeFits b) (p .1 .0)) in
+      (not-false (Parameters.fits 1 m1) (p .0), size .0, size .1)
 
   pub sound-empty : Sound (empty m1 b)
-  sound-empty = record { opens = blank-opens m1 b whole-octets o; now-most = zero-le; room = zero-le; all-good = refl }
+  sound-empty =
+      record { m1-fits = open-fits .0; capacity-fits = open-fits .2; now-most = zero-le; room = zero-le; all-good = refl }
 
   pub opened-write : opened m1 b ≡ write (empty m1 b)
   unfolding write packed image
   opened-write =
-      let e : (capacity b - 0) * size ≡ len b = unfold size in omega (arith, whole-octets) in
+      let e : (capacity b - 0) * size ≡ len b = unfold size in omega (arith, whole-length b (open-fits .1)) in
       rw e
