@@ -5,7 +5,7 @@ use mathlib.Core.Bool.{false, and-false}
 use lib.Ieee.{Float, nan, inf, fin, le, mul}
 use borrow.Author.Tests.{ne-eqb}
 use Rattle.distance.specs.declared.Distance.{Distance}
-use Rattle.distance.specs.declared.Distance.the-variants.{Unknown, Range, Apart}
+use Rattle.distance.specs.declared.Distance.the-variants.{Unknown, Range, Offset}
 use Rattle.distance.specs.Distances.{isFar, offset, distanceOf}
 
 -- ---- NaN
@@ -29,7 +29,7 @@ pub nan-limit : (d : Distance) → isFar d nan ≡ false
 unfolding le mul
 nan-limit Unknown = refl
 nan-limit (Range r) = refl
-nan-limit (Apart o) = simp and-false
+nan-limit (Offset o) = simp and-false
 
 -- ---- kinds
 

@@ -5,7 +5,7 @@ use lib.IntN.{pos}
 use lib.Dec.{eqb}
 use lib.Ieee.{Float, binary64, ofInt, neg, add, mul, le}
 use Rattle.distance.specs.declared.Distance.{Distance}
-use Rattle.distance.specs.declared.Distance.the-variants.{Unknown, Range, Apart}
+use Rattle.distance.specs.declared.Distance.the-variants.{Unknown, Range, Offset}
 
 -- the float of a whole number
 abbrev pub num : ℕ → Float
@@ -35,7 +35,7 @@ offsetFar east north limit = inBounds east && inBounds north && le (square limit
 abbrev pub isFar : Distance → Float → Bool
 isFar Unknown limit = false
 isFar (Range r) limit = rangeFar r limit
-isFar (Apart o) limit = offsetFar (o .east) (o .north) limit
+isFar (Offset o) limit = offsetFar (o .east) (o .north) limit
 
 -- the limit must lie in 0..4096: refusal 18 is given exactly where it does not
 abbrev pub limitFits : Float → Bool
@@ -43,7 +43,7 @@ limitFits limit = between (num 0) (num 4096) limit
 
 -- the offset of two parts
 abbrev pub offset : Float → Float → Distance
-offset east north = Apart (record { east = east; north = north })
+offset east north = Offset (record { east = east; north = north })
 
 -- what C hands over as a kind and two numbers: 1 is a range, the first number; 2 is an offset, east and then north; any other is unknown
 abbrev pub distanceOf : ℕ → Float → Float → Distance

@@ -13,7 +13,7 @@ pub struct Offset {
 pub enum Distance {
     Unknown,
     Range(f64),
-    Apart(Offset),
+    Offset(Offset),
 }
 
 // Whether x lies in lo..hi; false of a NaN.
@@ -39,7 +39,7 @@ pub fn far(d: Distance, limit: f64) -> bool
     match d {
         Distance::Unknown => false,
         Distance::Range(r) => between(limit, 4096.0, r),
-        Distance::Apart(o) => offset_far(o, limit),
+        Distance::Offset(o) => offset_far(o, limit),
     }
 }
 
@@ -58,7 +58,7 @@ pub fn distance_of(kind: u32, a: f64, b: f64) -> Distance
         return Distance::Range(a);
     }
     if kind == 2 {
-        return Distance::Apart(Offset { east: a, north: b });
+        return Distance::Offset(Offset { east: a, north: b });
     }
     Distance::Unknown
 }
