@@ -1,6 +1,5 @@
 -- `series::offset` meets its contract: the product of j and the spacing. Assumes nothing.
-use Prim.Native.Nat.{_*_}
-use mathlib.Core.Path.{ap, _∙_}
+use native.Mathlib.Omega.{arith}
 use borrow.Author.Needs.{needs}
 use Rattle.series.proofs.offset.Statement.{statement}
 use Rattle.series.proofs.offset.Tie as tie
@@ -12,7 +11,7 @@ times-requires : tie.Need-times-requires
 times-requires c κs = search needs
 
 returns : tie.Need-returns
-returns c = (c .times .ensures .0 ∙ ap (λ n. c .before .before .args .j * n) (c .before .quotient .ensures .0), c .times .ensures .1)
+returns c = (cc, omega arith)
 
 pub offset-spec : {M : Type 1} → statement M
 offset-spec = tie.close (tie.spec quotient-requires times-requires returns)
