@@ -15,7 +15,7 @@ use Rattle.record.specs.Record.{capacity}
 use Rattle.record.specs.declared.Rec.{Rec}
 use Rattle.table.specs.declared.Request.{Request}
 use Rattle.table.specs.Table.{Call, clock, reserve, distance, wipe, look, asked, requestTests, placeTests, tests, changed, reported}
-use Rattle.table.specs.Memory.{Store, stateOf, records, sound, read, packed, write, refusal, leaves, says, returned}
+use Rattle.table.specs.Memory.{Channel, stateOf, records, sound, read, packed, write, refusal, leaves, says, returned}
 use Rattle.table.specs.Steps.{refused, swept, added, addedMemory}
 use Rattle.table.proofs.Memory.{Held, held}
 
@@ -29,17 +29,17 @@ isLook (look f) = true
 
 -- ---- which refusal
 
-pub refusal-unsound : (m : Store) (c : Call) → sound m ≡ false → 11 ≡ refusal m c
+pub refusal-unsound : (m : Channel) (c : Call) → sound m ≡ false → 11 ≡ refusal m c
 unfolding refusal
 refusal-unsound m c h = rw h
 
-pub refusal-sound : (m : Store) (c : Call) → sound m ≡ true → refusal m c ≡ firstOf (tests (read m) c)
+pub refusal-sound : (m : Channel) (c : Call) → sound m ≡ true → refusal m c ≡ firstOf (tests (read m) c)
 unfolding refusal
 refusal-sound m c h = rw h
 
 -- ---- a refused call
 
-pub refused-leaves : (m : Store) (c : Call) → (refusal m c ≡ 0 → ⊥) → m ≡ leaves m c
+pub refused-leaves : (m : Channel) (c : Call) → (refusal m c ≡ 0 → ⊥) → m ≡ leaves m c
 unfolding leaves
 refused-leaves m (clock slot) h = answer-refused _ (λ _. m) refl h
 refused-leaves m (reserve q) h = answer-refused _ (λ _. m) refl h
@@ -48,18 +48,18 @@ refused-leaves m (wipe s) h = answer-refused _ (λ _. m) refl h
 refused-leaves m (look f) h = refl
 
 -- what it gives back, and the memory at exit
-pub refused-gives : (m : Store) (c : Call) (n : ℕ) → n ≡ refusal m c → (n ≡ 0 → ⊥)
+pub refused-gives : (m : Channel) (c : Call) (n : ℕ) → n ≡ refusal m c → (n ≡ 0 → ⊥)
     → (refused n (stateOf m) ≡ returned m c) × (m .memory ≡ leaves m c .memory)
 unfolding returned says
 refused-gives m c n e h =
     let l = refused-leaves m c (λ z. h (e ∙ z)) in (
       rw (← l, ← e) (ap (λ k. record { refusal = n; number = k; state = stateOf m }) (answer-refused (reported (read m) c) (λ _. 0) {n = n} refl h)),
-      ap (λ (u : Store). u .memory) l,
+      ap (λ (u : Channel). u .memory) l,
     )
 
 -- ---- an accepted call
 
-accepted-leaves : (m : Store) (c : Call) → 0 ≡ refusal m c → isLook c ≡ false → write (changed (read m) c) ≡ leaves m c
+accepted-leaves : (m : Channel) (c : Call) → 0 ≡ refusal m c → isLook c ≡ false → write (changed (read m) c) ≡ leaves m c
 unfolding leaves
 accepted-leaves m (clock slot) h n = answer-accepted (write (changed (read m) (clock slot))) (λ _. m) h
 accepted-leaves m (reserve q) h n = answer-accepted (write (changed (read m) (reserve q))) (λ _. m) h
@@ -67,18 +67,18 @@ accepted-leaves m (distance s d limit) h n = answer-accepted (write (changed (re
 accepted-leaves m (wipe s) h n = answer-accepted (write (changed (read m) (wipe s))) (λ _. m) h
 accepted-leaves m (look f) h n = absurd (true≢false n)
 
-pub accepted-gives : (m : Store) (c : Call) → 0 ≡ refusal m c → isLook c ≡ false
+pub accepted-gives : (m : Channel) (c : Call) → 0 ≡ refusal m c → isLook c ≡ false
     → (record { refusal = 0; number = reported (read m) c; state = stateOf (write (changed (read m) c)) } ≡ returned m c)
     × (write (changed (read m) c) .memory ≡ leaves m c .memory)
 unfolding returned says
 accepted-gives m c h n =
     let l = accepted-leaves m c h n in (
       rw (← h, l) (ap (λ k. record { refusal = 0; number = k; state = stateOf (leaves m c) }) (answer-accepted (reported (read m) c) (λ _. 0) {m = 0} refl)),
-      ap (λ (u : Store). u .memory) l,
+      ap (λ (u : Channel). u .memory) l,
     )
 
 -- one that keeps the records that pass p, at time t, and reports those that pass q, which are the others
-pub sweep-gives : (m : Store) → Held m → (c : Call) → 0 ≡ refusal m c → isLook c ≡ false
+pub sweep-gives : (m : Channel) → Held m → (c : Call) → 0 ≡ refusal m c → isLook c ≡ false
     → (t : ℕ) (p q : Rec → Bool) → ((r : Rec) → q r ≡ not (p r))
     → changed (read m) c ≡ record { m1 = m .m1; now = t; capacity = capacity (m .memory); records = keep p (records m) }
     → reported (read m) c ≡ length (keep q (records m))
@@ -109,7 +109,7 @@ request-passed q z =
       bs-most = outside-false 2 255 (q .bs) (p .1 .1 .1 .1 .0) .1;
     }
 
-module _ (m : Store) (q : Request) where
+module _ (m : Channel) (q : Request) where
   abbrev x : Rec
   x = asked (m .now) q
 

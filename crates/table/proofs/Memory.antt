@@ -20,13 +20,13 @@ use Rattle.record.specs.declared.Rec.{Rec}
 use Rattle.record.proofs.Views.{whole-length, length-view, same-capacity, image-view, image-append, image-take, image-drop}
 use Rattle.record.proofs.Places.{put-end}
 use Rattle.table.specs.Table.{good}
-use Rattle.table.specs.Memory.{Store, records, sizeFits, fits, sound, packed}
+use Rattle.table.specs.Memory.{Channel, records, sizeFits, numbersFit, sound, packed}
 use Rattle.table.specs.Steps.{mapped}
 
 -- ---- a sound table
 
 -- what soundness says, part by part
-pub record Held (m : Store) : Type 0 where
+pub record Held (m : Channel) : Type 0 where
   pub capacity-fits : within 1 2048 (capacity (m .memory)) ≡ true
   pub capacity-most : capacity (m .memory) ≤ 2048
   pub m1-fits : Parameters.fits 1 (m .m1) ≡ true
@@ -41,21 +41,21 @@ tail-length : (n cap k : ℕ) → n ≡ cap * size → n - k * size ≡ (cap - k
 unfolding size
 tail-length n cap k e = omega arith
 
-count-records : (m : Store) → m .count ≤ capacity (m .memory) → length (records m) ≡ m .count
+count-records : (m : Channel) → m .count ≤ capacity (m .memory) → length (records m) ≡ m .count
 unfolding records
 count-records m h = length-take-le (m .count) (view (m .memory)) (rw length-view h)
 
-pub fits-room : (m : Store) → fits m ≡ true → m .count ≤ capacity (m .memory)
-unfolding fits
+pub fits-room : (m : Channel) → numbersFit m ≡ true → m .count ≤ capacity (m .memory)
+unfolding numbersFit
 fits-room m h =
     leb-true (m .count) (capacity (m .memory)) (and-eq-true-iff (sizeFits (m .memory) && Parameters.fits 1 (m .m1) && leb (m .now) 1_000_000_000) (leb (m .count) (capacity (m .memory))) .0 h .1)
 
-pub held : (m : Store) → sound m ≡ true → Held m
-unfolding sound fits
+pub held : (m : Channel) → sound m ≡ true → Held m
+unfolding sound numbersFit
 held m h =
     let b = m .memory in
-    let s = and-eq-true-iff (fits m && every (good (m .m1) (m .now)) (records m)) (zeros (rest (m .count) b)) .0 h in
-    let g = and-eq-true-iff (fits m) (every (good (m .m1) (m .now)) (records m)) .0 (s .0) in
+    let s = and-eq-true-iff (numbersFit m && every (good (m .m1) (m .now)) (records m)) (zeros (rest (m .count) b)) .0 h in
+    let g = and-eq-true-iff (numbersFit m) (every (good (m .m1) (m .now)) (records m)) .0 (s .0) in
     let f = and-eq-true-iff (sizeFits b && Parameters.fits 1 (m .m1) && leb (m .now) 1_000_000_000) (leb (m .count) (capacity b)) .0 (g .0) in
     let t = and-eq-true-iff (sizeFits b && Parameters.fits 1 (m .m1)) (leb (m .now) 1_000_000_000) .0 (f .0) in
     let d = and-eq-true-iff (sizeFits b) (Parameters.fits 1 (m .m1)) .0 (t .0) in
@@ -74,7 +74,7 @@ held m h =
       tail = rw (length-drop, tail-length (length b) (capacity b) (m .count) w) at (zeros-true (rest (m .count) b) (s .1));
     }
 
-pub length-kept : (m : Store) → Held m → (p : Rec → Bool) → length (keep p (records m)) ≤ m .count
+pub length-kept : (m : Channel) → Held m → (p : Rec → Bool) → length (keep p (records m)) ≤ m .count
 length-kept m k p = omega (arith, k .counted, length-keep p (records m))
 
 -- ---- what the calls leave
@@ -96,7 +96,7 @@ drop-zeros : (k j : ℕ) → drop {A = ℕ} k (replicate (k + j) 0) ≡ replicat
 drop-zeros k j = rw (← replicate-append-replicate {A = ℕ} k j 0) (drop-at {A = ℕ} (replicate k 0) (replicate j 0) k (length-replicate k 0))
 
 -- one record more at the end
-pub packed-end : (m : Store) (x : Rec) → Held m → AreOctets (m .memory) → m .count < capacity (m .memory)
+pub packed-end : (m : Channel) (x : Rec) → Held m → AreOctets (m .memory) → m .count < capacity (m .memory)
     → put (m .memory) (m .count) x ≡ packed (capacity (m .memory)) (records m ++ (x ∷ []))
 unfolding packed records
 packed-end m x k b h =
@@ -108,7 +108,7 @@ packed-end m x k b h =
     put-end (m .memory) n x b (k .whole-records) h ∙ rw (z, l)
 
 -- the records changed, each in its place
-pub packed-mapped : (m : Store) (f : Rec → Rec) (w : List ℕ) → Held m → AreOctets (m .memory) → AreOctets w → length w ≡ length (m .memory)
+pub packed-mapped : (m : Channel) (f : Rec → Rec) (w : List ℕ) → Held m → AreOctets (m .memory) → AreOctets w → length w ≡ length (m .memory)
     → view w ≡ mapped f (m .count) (view (m .memory)) → w ≡ packed (capacity (m .memory)) (map f (records m))
 unfolding packed records mapped
 packed-mapped m f w k b bw l e =

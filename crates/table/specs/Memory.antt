@@ -14,21 +14,21 @@ use Rattle.table.specs.declared.State.{State}
 use Rattle.table.specs.declared.Answer.{Answer}
 use Rattle.table.specs.Table.{Table, Said, Call, clock, reserve, distance, wipe, look, good, tests, changed, reported}
 
--- the state M1, now, count and the lent octets
-pub record Store : Type 0 where
+-- a channel: the state M1, now, count, and the lent octets
+pub record Channel : Type 0 where
   pub m1 : ℕ
   pub now : ℕ
   pub count : ℕ
   pub memory : List ℕ
 
-abbrev pub store : State → List ℕ → Store
-store s b = record { m1 = s .m1; now = s .now; count = s .count; memory = b }
+abbrev pub channel : State → List ℕ → Channel
+channel s b = record { m1 = s .m1; now = s .now; count = s .count; memory = b }
 
-abbrev pub stateOf : Store → State
+abbrev pub stateOf : Channel → State
 stateOf m = record { m1 = m .m1; now = m .now; count = m .count }
 
 -- the first count records
-unfoldable pub records : Store → List Rec
+unfoldable pub records : Channel → List Rec
 records m = take (m .count) (view (m .memory))
 
 -- ---- a sound table
@@ -38,21 +38,21 @@ abbrev pub sizeFits : List ℕ → Bool
 sizeFits b = whole b && within 1 2048 (capacity b)
 
 -- memory size right; M1 fits its row; now at most 1,000,000,000; count fits
-unfoldable pub fits : Store → Bool
-fits m =
+unfoldable pub numbersFit : Channel → Bool
+numbersFit m =
     sizeFits (m .memory)
     && Parameters.fits 1 (m .m1)
     && leb (m .now) 1_000_000_000
     && leb (m .count) (capacity (m .memory))
 
 -- and each of the first count records is good; all octets after them are 0
-unfoldable pub sound : Store → Bool
-sound m = fits m && every (good (m .m1) (m .now)) (records m) && zeros (rest (m .count) (m .memory))
+unfoldable pub sound : Channel → Bool
+sound m = numbersFit m && every (good (m .m1) (m .now)) (records m) && zeros (rest (m .count) (m .memory))
 
 -- ---- records and octets
 
 -- the table that the octets hold
-unfoldable pub read : Store → Table
+unfoldable pub read : Channel → Table
 read m = record { m1 = m .m1; now = m .now; capacity = capacity (m .memory); records = records m }
 
 -- the records' octets, then zeros
@@ -60,21 +60,21 @@ unfoldable pub packed : ℕ → List Rec → List ℕ
 packed cap rs = image rs ++ replicate ((cap - len rs) * size) 0
 
 -- the octets and the state of a table
-unfoldable pub write : Table → Store
+unfoldable pub write : Table → Channel
 write t = record { m1 = t .m1; now = t .now; count = len (t .records); memory = packed (t .capacity) (t .records) }
 
 -- ---- the calls
 
 -- the first refusal that applies, 0 if none does
-unfoldable pub refusal : Store → Call → ℕ
+unfoldable pub refusal : Channel → Call → ℕ
 refusal m c = firstOf ((11, not (sound m)) ∷ tests (read m) c)
 
 -- the octets and the state that a call leaves: the changed table where it is accepted, all as it was where it is refused
-abbrev pub acts : Store → Call → Store
+abbrev pub acts : Channel → Call → Channel
 acts m c = answer (refusal m c) (write (changed (read m) c)) (λ _. m)
 
 -- a slot state and a search leave all as it was
-unfoldable pub leaves : Store → Call → Store
+unfoldable pub leaves : Channel → Call → Channel
 leaves m (clock slot) = acts m (clock slot)
 leaves m (reserve q) = acts m (reserve q)
 leaves m (distance s d limit) = acts m (distance s d limit)
@@ -82,11 +82,11 @@ leaves m (wipe s) = acts m (wipe s)
 leaves m (look f) = m
 
 -- the answer: the refusal, and the number reported, 0 where the call is refused
-unfoldable pub says : Store → Call → Said
+unfoldable pub says : Channel → Call → Said
 says m c = record { refusal = refusal m c; number = answer (refusal m c) (reported (read m) c) (λ _. 0) }
 
 -- what the functions return: the answer, and the state handed back
-unfoldable pub returned : Store → Call → Answer
+unfoldable pub returned : Channel → Call → Answer
 returned m c = record { refusal = says m c .refusal; number = says m c .number; state = stateOf (leaves m c) }
 
 -- ---- open
@@ -96,11 +96,11 @@ unfoldable pub openRefusal : ℕ → List ℕ → ℕ
 openRefusal m1 b = firstOf ((10, not (Parameters.fits 1 m1)) ∷ (1, not (sizeFits b)) ∷ [])
 
 -- all octets 0, now 0, count 0
-abbrev pub opened : ℕ → List ℕ → Store
+abbrev pub opened : ℕ → List ℕ → Channel
 opened m1 b = record { m1 = m1; now = 0; count = 0; memory = replicate (len b) 0 }
 
 -- a refused opening gives M1, now and count all 0 with memory untouched
-unfoldable pub openLeaves : ℕ → List ℕ → Store
+unfoldable pub openLeaves : ℕ → List ℕ → Channel
 openLeaves m1 b = answer (openRefusal m1 b) (opened m1 b) (λ _. record { m1 = 0; now = 0; count = 0; memory = b })
 
 unfoldable pub openReturned : ℕ → List ℕ → Answer

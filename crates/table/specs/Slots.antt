@@ -10,7 +10,7 @@ use Rattle.series.specs.Series.{reserves}
 use Rattle.table.specs.declared.Slot.{Slot}
 use Rattle.table.specs.declared.Slot.the-variants.{Free, Reusable, Taken, Refused}
 use Rattle.table.specs.Table.{Table, Said, timeTests}
-use Rattle.table.specs.Memory.{Store, records, sound, read}
+use Rattle.table.specs.Memory.{Channel, records, sound, read}
 
 -- a record held as far
 abbrev pub heldFar : Rec → Bool
@@ -26,7 +26,7 @@ unfoldable pub slotState : ℕ → List Rec → ℕ → Slot
 slotState m1 rs slot = stateBy (keep (λ r. reserves m1 r slot) rs)
 
 -- what a slot state gives: the state; refused, its number alone. 11, 12 for a slot behind now, 13 above the limit
-unfoldable pub slotAnswer : Store → ℕ → Slot
+unfoldable pub slotAnswer : Channel → ℕ → Slot
 slotAnswer m slot = answer (firstOf ((11, not (sound m)) ∷ timeTests (read m) slot)) (slotState (m .m1) (records m) slot) Refused
 
 -- the number over C: 0 free, 1 reusable, 2 taken; refused, 2,000,000,000 plus the refusal's number

@@ -12,7 +12,7 @@ use Rattle.table.specs.declared.Stay.the-variants.{Other, Live}
 use Rattle.table.specs.declared.State.{State}
 use Rattle.table.specs.declared.Answer.{Answer}
 use Rattle.table.specs.Table.{of, lasts, placeTests}
-use Rattle.table.specs.Memory.{Store, stateOf, records, read, packed}
+use Rattle.table.specs.Memory.{Channel, stateOf, records, read, packed}
 
 -- which records stay
 unfoldable pub stays : Stay → Rec → Bool
@@ -36,7 +36,7 @@ abbrev pub refused : ℕ → State → Answer
 refused n s = record { refusal = n; number = 0; state = s }
 
 -- the answer of a sweep to time t that keeps the records that pass
-abbrev pub swept : Store → ℕ → (Rec → Bool) → Answer
+abbrev pub swept : Channel → ℕ → (Rec → Bool) → Answer
 swept m t p =
     record {
       refusal = 0;
@@ -45,9 +45,9 @@ swept m t p =
     }
 
 -- the answer where a record is to be added, and the memory then
-unfoldable pub added : Store → Rec → Answer
+unfoldable pub added : Channel → Rec → Answer
 added m x =
     answer (firstOf (placeTests (read m) x)) (record { refusal = 0; number = 0; state = record { m1 = m .m1; now = m .now; count = m .count + 1 } }) (λ n. refused n (stateOf m))
 
-unfoldable pub addedMemory : Store → Rec → List ℕ
+unfoldable pub addedMemory : Channel → Rec → List ℕ
 addedMemory m x = answer (firstOf (placeTests (read m) x)) (packed (capacity (m .memory)) (records m ++ (x ∷ []))) (λ _. m .memory)

@@ -11,7 +11,7 @@ ghost use Rattle.codec.specs.Parameters as Parameters;
 ghost use Rattle.distance.specs.Distances as Distances;
 ghost use Rattle.record.specs.Record.{view, blank, capacity};
 ghost use Rattle.table.specs.Table.{clock, reserve, distance, wipe, good, bit, same, of, setFar, requestTests};
-ghost use Rattle.table.specs.Memory.{store, records, sizeFits, fits, sound, packed, leaves, returned, openLeaves, openReturned};
+ghost use Rattle.table.specs.Memory.{channel, records, sizeFits, numbersFit, sound, packed, leaves, returned, openLeaves, openReturned};
 ghost use Rattle.table.specs.Slots.{slotState, slotAnswer};
 ghost use Rattle.table.specs.Steps.{stays, sieved, moved, mapped, refused, swept, added, addedMemory};
 
@@ -111,7 +111,7 @@ fn size_fits(mem: &[u8]) -> bool
 }
 
 fn numbers_fit(s: State, mem: &[u8]) -> bool
-    ensures { λ b. ⌜ b ≡ fits (store s (now (mem .entry))) ⌝ }
+    ensures { λ b. ⌜ b ≡ numbersFit (channel s (now (mem .entry))) ⌝ }
 {
     let size = size_fits(mem);
     let m1 = m1_fits(s.m1);
@@ -123,7 +123,7 @@ fn numbers_fit(s: State, mem: &[u8]) -> bool
 
 // Whether a table is sound; every call that takes one asks this first.
 pub fn is_sound(s: State, mem: &[u8]) -> bool
-    ensures { λ b. ⌜ b ≡ sound (store s (now (mem .entry))) ⌝ }
+    ensures { λ b. ⌜ b ≡ sound (channel s (now (mem .entry))) ⌝ }
 {
     if numbers_fit(s, mem) {
         let n = s.count as usize;
@@ -189,9 +189,9 @@ fn compact(mem: &mut [u8], n: usize, rule: Stay) -> usize
 
 // Keeps the records that stay, closes the gaps and zeros the tail of a sound table, at time t: clock and wipe.
 fn sweep(s: State, mem: &mut [u8], t: u32, rule: Stay) -> Answer
-    requires { ⌜ sound (store s (now mem)) ≡ true ⌝ }
-    ensures answer { λ r. ⌜ r ≡ swept (store s (now (mem .entry))) t (stays rule) ⌝ }
-    ensures memory { λ _. ⌜ now (mem .exit) ≡ packed (capacity (now (mem .entry))) (keep (stays rule) (records (store s (now (mem .entry))))) ⌝ }
+    requires { ⌜ sound (channel s (now mem)) ≡ true ⌝ }
+    ensures answer { λ r. ⌜ r ≡ swept (channel s (now (mem .entry))) t (stays rule) ⌝ }
+    ensures memory { λ _. ⌜ now (mem .exit) ≡ packed (capacity (now (mem .entry))) (keep (stays rule) (records (channel s (now (mem .entry))))) ⌝ }
 {
     let n = s.count as usize;
     let kept = compact(mem, n, rule);
@@ -238,9 +238,9 @@ fn has_same(mem: &[u8], n: usize, x: Rec) -> bool
 
 // Adds a record at the end of a sound table, unless it is held already or there is no room.
 fn add(s: State, mem: &mut [u8], x: Rec) -> Answer
-    requires { ⌜ sound (store s (now mem)) ≡ true ⌝ }
-    ensures answer { λ r. ⌜ r ≡ added (store s (now (mem .entry))) x ⌝ }
-    ensures memory { λ _. ⌜ now (mem .exit) ≡ addedMemory (store s (now (mem .entry))) x ⌝ }
+    requires { ⌜ sound (channel s (now mem)) ≡ true ⌝ }
+    ensures answer { λ r. ⌜ r ≡ added (channel s (now (mem .entry))) x ⌝ }
+    ensures memory { λ _. ⌜ now (mem .exit) ≡ addedMemory (channel s (now (mem .entry))) x ⌝ }
 {
     let n = s.count as usize;
     if has_same(mem, n, x) {
@@ -372,8 +372,8 @@ impl State {
 
     // Sets now and drops the records that are over; reports how many. Refused, in this order: 11, 12, 13.
     pub fn clock(self, mem: &mut [u8], slot: u32) -> Answer
-        ensures answer { λ r. ⌜ r ≡ returned (store self (now (mem .entry))) (clock slot) ⌝ }
-        ensures memory { λ _. ⌜ now (mem .exit) ≡ leaves (store self (now (mem .entry))) (clock slot) .memory ⌝ }
+        ensures answer { λ r. ⌜ r ≡ returned (channel self (now (mem .entry))) (clock slot) ⌝ }
+        ensures memory { λ _. ⌜ now (mem .exit) ≡ leaves (channel self (now (mem .entry))) (clock slot) .memory ⌝ }
     {
         if is_sound(self, mem) {
             if slot < self.now {
@@ -389,8 +389,8 @@ impl State {
 
     // Adds one record at the end. Refused, in this order: 11, 8, 14, 15, 9, 5, 18, 16, 17.
     pub fn reserve(self, mem: &mut [u8], q: Request) -> Answer
-        ensures answer { λ r. ⌜ r ≡ returned (store self (now (mem .entry))) (reserve q) ⌝ }
-        ensures memory { λ _. ⌜ now (mem .exit) ≡ leaves (store self (now (mem .entry))) (reserve q) .memory ⌝ }
+        ensures answer { λ r. ⌜ r ≡ returned (channel self (now (mem .entry))) (reserve q) ⌝ }
+        ensures memory { λ _. ⌜ now (mem .exit) ≡ leaves (channel self (now (mem .entry))) (reserve q) .memory ⌝ }
     {
         if is_sound(self, mem) {
             let n = judge_request(q);
@@ -414,8 +414,8 @@ impl State {
 
     // Rewrites far in all the station's records; reports how many it has. Refused, in this order: 11, 8, 18.
     pub fn distance(self, mem: &mut [u8], station: u32, d: Distance, limit: f64) -> Answer
-        ensures answer { λ r. ⌜ r ≡ returned (store self (now (mem .entry))) (distance station d limit) ⌝ }
-        ensures memory { λ _. ⌜ now (mem .exit) ≡ leaves (store self (now (mem .entry))) (distance station d limit) .memory ⌝ }
+        ensures answer { λ r. ⌜ r ≡ returned (channel self (now (mem .entry))) (distance station d limit) ⌝ }
+        ensures memory { λ _. ⌜ now (mem .exit) ≡ leaves (channel self (now (mem .entry))) (distance station d limit) .memory ⌝ }
     {
         if is_sound(self, mem) {
             if 134217728 <= station {
@@ -438,8 +438,8 @@ impl State {
 
     // Removes the station's records; reports how many. Refused, in this order: 11, 8.
     pub fn wipe(self, mem: &mut [u8], station: u32) -> Answer
-        ensures answer { λ r. ⌜ r ≡ returned (store self (now (mem .entry))) (wipe station) ⌝ }
-        ensures memory { λ _. ⌜ now (mem .exit) ≡ leaves (store self (now (mem .entry))) (wipe station) .memory ⌝ }
+        ensures answer { λ r. ⌜ r ≡ returned (channel self (now (mem .entry))) (wipe station) ⌝ }
+        ensures memory { λ _. ⌜ now (mem .exit) ≡ leaves (channel self (now (mem .entry))) (wipe station) .memory ⌝ }
     {
         if is_sound(self, mem) {
             if 134217728 <= station {
@@ -455,7 +455,7 @@ impl State {
 
 // How many records there are to look at: the count, as far as the memory goes.
 fn held_count(s: State, mem: &[u8]) -> usize
-    ensures { λ n. ⌜ (n ≤ capacity (now (mem .entry))) × (records (store s (now (mem .entry))) ≡ take n (view (now (mem .entry)))) ⌝ }
+    ensures { λ n. ⌜ (n ≤ capacity (now (mem .entry))) × (records (channel s (now (mem .entry))) ≡ take n (view (now (mem .entry)))) ⌝ }
 {
     let n = s.count as usize;
     let all = record::capacity(mem);
@@ -467,7 +467,7 @@ fn held_count(s: State, mem: &[u8]) -> usize
 
 // The state of any slot by the records held: it neither tests the table nor refuses a slot, and stops at the first near holder.
 pub fn judge(s: State, mem: &[u8], slot: u32) -> Slot
-    ensures { λ r. ⌜ r ≡ slotState (s .m1) (records (store s (now (mem .entry)))) slot ⌝ }
+    ensures { λ r. ⌜ r ≡ slotState (s .m1) (records (channel s (now (mem .entry)))) slot ⌝ }
 {
     let n = held_count(s, mem);
     let mut any = false;
@@ -490,7 +490,7 @@ pub fn judge(s: State, mem: &[u8], slot: u32) -> Slot
 
 // The slot state. Refused, in this order: 11, 12 for a slot behind now, 13 above the limit.
 pub fn slot_state(s: State, mem: &[u8], slot: u32) -> Slot
-    ensures { λ r. ⌜ r ≡ slotAnswer (store s (now (mem .entry))) slot ⌝ }
+    ensures { λ r. ⌜ r ≡ slotAnswer (channel s (now (mem .entry))) slot ⌝ }
 {
     if is_sound(s, mem) {
         if slot < s.now {

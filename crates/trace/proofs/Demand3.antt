@@ -14,7 +14,7 @@ use Rattle.record.specs.declared.Rec.{Rec}
 use Rattle.table.specs.declared.State.{State}
 use Rattle.table.specs.declared.Answer.{Answer}
 use Rattle.table.specs.Table.{Table, Said, Call, clock, reserve, distance, wipe, look, inRange, changed, reported, withRecords}
-use Rattle.table.specs.Memory.{Store, store, stateOf, sound, read, write, refusal, acts, leaves, says, returned, openRefusal, opened, openLeaves, openReturned}
+use Rattle.table.specs.Memory.{Channel, channel, stateOf, sound, read, write, refusal, acts, leaves, says, returned, openRefusal, opened, openLeaves, openReturned}
 use Rattle.table.proofs.Calls.{refusal-sound, refused-leaves}
 use Rattle.trace.specs.Sequences.{runs, logs, is, without, roomy, saidBy, Made, none, made}
 use Rattle.trace.specs.Claims.{WipedWithoutTrace, RealCalls, SoundOpened, SoundKept, NeverUnsound, RefusedChangesNothing, OneResult}
@@ -55,21 +55,21 @@ wiped-without-trace m1 b o A cs r =
 -- ---- the same of real calls
 
 -- a call's promise settles the table that it leaves, and its answer
-settled : (m : Store) (c : Call) (r : Answer) (x : List ℕ) → r ≡ returned m c → x ≡ leaves m c .memory
-    → (store (r .state) x ≡ leaves m c) × (saidBy r ≡ says m c)
+settled : (m : Channel) (c : Call) (r : Answer) (x : List ℕ) → r ≡ returned m c → x ≡ leaves m c .memory
+    → (channel (r .state) x ≡ leaves m c) × (saidBy r ≡ says m c)
 unfolding returned
 settled m c r x p q = (rw (p, q), rw p)
 
 made-runs : {s t : State} {b d : List ℕ} {cs : List Call} {es : List (Call × Said)} → Made s b cs t d es
-    → (store t d ≡ runs (store s b) cs) × (es ≡ logs (store s b) cs)
+    → (channel t d ≡ runs (channel s b) cs) × (es ≡ logs (channel s b) cs)
 made-runs none = (refl, refl)
 made-runs (made {s = s} {b = b} {x = x} {c = c} {cs = cs} {r = r} p q d) =
     let i = made-runs d in
-    let e = settled (store s b) c r x p q in
+    let e = settled (channel s b) c r x p q in
     (i .0 ∙ ap (λ u. runs u cs) (e .0), rw (i .1, e .0, e .1))
 
 open-settled : (m1 : ℕ) (b : List ℕ) (o : Answer) (z : List ℕ) → o ≡ openReturned m1 b → z ≡ openLeaves m1 b .memory → o .refusal ≡ 0
-    → (openRefusal m1 b ≡ 0) × (store (o .state) z ≡ opened m1 b)
+    → (openRefusal m1 b ≡ 0) × (channel (o .state) z ≡ opened m1 b)
 unfolding openReturned openLeaves answer
 open-settled m1 b o z p q e =
     let f : openRefusal m1 b ≡ 0 = sym (ap (λ u. u .refusal) p) ∙ e in
@@ -82,7 +82,7 @@ real-calls m1 b o z p q e A cs s t x y es fs ms mt w v pw pv r =
     let n = made-runs mt in
     let room : every (roomy (is A)) (logs (opened m1 b) cs) ≡ true = rw (u .1, i .1) at r in
     let d = wiped-without-trace m1 b (i .0) A cs room in
-    let l : store (w .state) v ≡ store t y = settled (store s x) (wipe A) w v pw pv .0 ∙ rw (u .0, n .0, i .1) (d .0) in
+    let l : channel (w .state) v ≡ channel t y = settled (channel s x) (wipe A) w v pw pv .0 ∙ rw (u .0, n .0, i .1) (d .0) in
     (ap stateOf l, ap (λ k. k .memory) l, rw (u .1, n .1, i .1) (d .1))
 
 -- ---- soundness
@@ -90,7 +90,7 @@ real-calls m1 b o z p q e A cs s t x y es fs ms mt w v pw pv r =
 pub sound-opened : SoundOpened
 sound-opened m1 b o = rw (opened-write m1 b o) (sound-write (empty m1 b) (sound-empty m1 b o))
 
-sound-acts : (m : Store) (c : Call) → sound m ≡ true → sound (acts m c) ≡ true
+sound-acts : (m : Channel) (c : Call) → sound m ≡ true → sound (acts m c) ≡ true
 sound-acts m c h =
     answer-elim (write (changed (read m) c)) (λ _. m) (λ u. sound u ≡ true) (refusal m c)
     (λ e. sound-write (changed (read m) c) (sound-changed (read m) c (sound-read m h) (sym (refusal-sound m c h) ∙ e)))
@@ -104,7 +104,7 @@ sound-kept m (distance s d limit) h = sound-acts m (distance s d limit) h
 sound-kept m (wipe s) h = sound-acts m (wipe s) h
 sound-kept m (look f) h = h
 
-sound-runs : (m : Store) (cs : List Call) → sound m ≡ true → sound (runs m cs) ≡ true
+sound-runs : (m : Channel) (cs : List Call) → sound m ≡ true → sound (runs m cs) ≡ true
 sound-runs m [] h = h
 sound-runs m (c ∷ cs) h = sound-runs (leaves m c) cs (sound-kept m c h)
 

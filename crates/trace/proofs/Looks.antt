@@ -12,7 +12,7 @@ use Rattle.series.specs.Series.{reserves}
 use Rattle.table.specs.declared.Slot.{Slot}
 use Rattle.table.specs.declared.Slot.the-variants.{Reusable, Taken, Refused}
 use Rattle.table.specs.Table.{Table, Said, timeTests}
-use Rattle.table.specs.Memory.{Store, sound, read, write, refusal, says}
+use Rattle.table.specs.Memory.{Channel, sound, read, write, refusal, says}
 use Rattle.table.specs.Slots.{heldFar, stateBy, slotState, slotAnswer, said, asks}
 use Rattle.trace.specs.Claims.{SlotStateLooks}
 use Rattle.trace.proofs.Kept.{Sound}
@@ -22,7 +22,7 @@ use Rattle.trace.proofs.Written.{read-write, sound-write}
 abbrev pub slotOn : Table → ℕ → Slot
 slotOn t slot = answer (firstOf (timeTests t slot)) (slotState (t .m1) (t .records) slot) Refused
 
-slot-sound : (m : Store) (slot : ℕ) → sound m ≡ true → slotAnswer m slot ≡ slotOn (read m) slot
+slot-sound : (m : Channel) (slot : ℕ) → sound m ≡ true → slotAnswer m slot ≡ slotOn (read m) slot
 unfolding slotAnswer read
 slot-sound m slot h = rw h
 

@@ -18,7 +18,7 @@ use Rattle.record.specs.Record.{size, capacity, fields, image, whole, rest, vie
 use Rattle.record.specs.declared.Rec.{Rec}
 use Rattle.record.proofs.Views.{whole-length, length-image, view-front}
 use Rattle.table.specs.Table.{Table, Call, clock, reserve, distance, wipe, look, inRange, changed}
-use Rattle.table.specs.Memory.{Store, records, fits, sound, read, packed, write, refusal, acts, leaves, says, sizeFits, openRefusal, opened}
+use Rattle.table.specs.Memory.{Channel, records, numbersFit, sound, read, packed, write, refusal, acts, leaves, says, sizeFits, openRefusal, opened}
 use Rattle.table.proofs.Memory.{held}
 use Rattle.table.proofs.Calls.{refusal-sound}
 use Rattle.trace.specs.Sequences.{runs, logs}
@@ -69,7 +69,7 @@ read-write t k =
 -- ---- soundness over octets and over records
 
 pub sound-write : (t : Table) → Sound t → sound (write t) ≡ true
-unfolding sound fits write records
+unfolding sound numbersFit write records
 sound-write t k =
     let cap = t .capacity in
     let rs = t .records in
@@ -87,7 +87,7 @@ sound-write t k =
     )
     (zeros-replicate ((cap - len rs) * size))
 
-pub sound-read : (m : Store) → sound m ≡ true → Sound (read m)
+pub sound-read : (m : Channel) → sound m ≡ true → Sound (read m)
 unfolding read
 sound-read m h =
     let k = held m h in

@@ -14,14 +14,14 @@ use Rattle.table.specs.declared.Answer.{Answer}
 use Rattle.table.specs.declared.Request.{Request}
 use Rattle.table.specs.declared.Slot.the-variants.{Free, Taken}
 use Rattle.table.specs.Table.{Said, Call, clock, reserve, wipe, look, tests}
-use Rattle.table.specs.Memory.{Store, store, records, sound, read, leaves, says, returned, openRefusal, opened, openLeaves, openReturned}
+use Rattle.table.specs.Memory.{Channel, channel, records, sound, read, leaves, says, returned, openRefusal, opened, openLeaves, openReturned}
 use Rattle.table.specs.Slots.{slotAnswer, said, asks}
 use Rattle.trace.specs.Sequences.{runs, logs, is, without, othersTold, roomy, Made}
 
 -- ---- demand 3
 
 -- Take any sequence of calls on one table after its one accepted opening, in which no other station's reservation was refused because
--- the table was full. Wipe station A at the end. The table's octets, clock and count (a `Store` is all of them, with M1) are those of
+-- the table was full. Wipe station A at the end. The table's octets, clock and count (a `Channel` is all of them, with M1) are those of
 -- the same sequence without A's calls. Every reserve, distance and wipe answer given to other stations is the same in both.
 abbrev pub WipedWithoutTrace : Type 0
 WipedWithoutTrace =
@@ -37,7 +37,7 @@ RealCalls =
     (m1 : ℕ) (b : List ℕ) (o : Answer) (z : List ℕ) → o ≡ openReturned m1 b → z ≡ openLeaves m1 b .memory → o .refusal ≡ 0
     → (A : ℕ) (cs : List Call) (s t : State) (x y : List ℕ) (es fs : List (Call × Said))
     → Made (o .state) z cs s x es → Made (o .state) z (without (is A) cs) t y fs
-    → (w : Answer) (v : List ℕ) → w ≡ returned (store s x) (wipe A) → v ≡ leaves (store s x) (wipe A) .memory
+    → (w : Answer) (v : List ℕ) → w ≡ returned (channel s x) (wipe A) → v ≡ leaves (channel s x) (wipe A) .memory
     → every (roomy (is A)) es ≡ true
     → (w .state ≡ t) × (v ≡ y) × (othersTold (is A) es ≡ othersTold (is A) fs)
 
@@ -48,7 +48,7 @@ abbrev pub SoundOpened : Type 0
 SoundOpened = (m1 : ℕ) (b : List ℕ) → openRefusal m1 b ≡ 0 → sound (opened m1 b) ≡ true
 
 abbrev pub SoundKept : Type 0
-SoundKept = (m : Store) (c : Call) → sound m ≡ true → sound (leaves m c) ≡ true
+SoundKept = (m : Channel) (c : Call) → sound m ≡ true → sound (leaves m c) ≡ true
 
 -- so after an accepted opening the table is sound at every call, and a call is refused for its own tests alone: 11 never comes
 abbrev pub NeverUnsound : Type 0
@@ -61,19 +61,19 @@ NeverUnsound =
 
 -- a refused call leaves every octet and the state, and reports 0
 abbrev pub RefusedChangesNothing : Type 0
-RefusedChangesNothing = (m : Store) (c : Call) → (says m c .refusal ≡ 0 → ⊥) → (leaves m c ≡ m) × (says m c .number ≡ 0)
+RefusedChangesNothing = (m : Channel) (c : Call) → (says m c .refusal ≡ 0 → ⊥) → (leaves m c ≡ m) × (says m c .number ≡ 0)
 
 -- any two results that a call's promise allows are equal: what it returns, and the memory at exit
 abbrev pub OneResult : Type 0
 OneResult =
     (s : State) (b : List ℕ) (c : Call) (r q : Answer) (x y : List ℕ)
-    → r ≡ returned (store s b) c → x ≡ leaves (store s b) c .memory
-    → q ≡ returned (store s b) c → y ≡ leaves (store s b) c .memory
+    → r ≡ returned (channel s b) c → x ≡ leaves (channel s b) c .memory
+    → q ≡ returned (channel s b) c → y ≡ leaves (channel s b) c .memory
     → (r ≡ q) × (x ≡ y)
 
 -- the slot state answers as the call `look` that stands for it in a sequence
 abbrev pub SlotStateLooks : Type 0
-SlotStateLooks = (m : Store) (slot : ℕ) → said (slotAnswer m slot) ≡ says m (look (asks slot))
+SlotStateLooks = (m : Channel) (slot : ℕ) → said (slotAnswer m slot) ≡ says m (look (asks slot))
 
 -- ---- the marked cases of record T
 
@@ -81,7 +81,7 @@ SlotStateLooks = (m : Store) (slot : ℕ) → said (slotAnswer m slot) ≡ says 
 abbrev pub requestT : Request
 requestT = record { station = 1; rate = 3; superframes = 2; bs = 5; length = 5; distance = Unknown; limit = num 150 }
 
-abbrev pub tableT : Store
+abbrev pub tableT : Channel
 tableT = runs (opened 4500 (replicate 12 0)) (clock 100 ∷ reserve requestT ∷ [])
 
 pub record MarkedCases : Type 0 where

@@ -8,15 +8,15 @@ use Rattle.octets.specs.Lists.{keep}
 use Rattle.table.specs.declared.State.{State}
 use Rattle.table.specs.declared.Answer.{Answer}
 use Rattle.table.specs.Table.{Said, Call, clock, reserve, distance, wipe, look}
-use Rattle.table.specs.Memory.{Store, store, leaves, says, returned}
+use Rattle.table.specs.Memory.{Channel, channel, leaves, says, returned}
 
 -- what a sequence leaves
-abbrev pub runs : Store → List Call → Store
+abbrev pub runs : Channel → List Call → Channel
 runs m [] = m
 runs m (c ∷ cs) = runs (leaves m c) cs
 
 -- its calls, each with its answer
-abbrev pub logs : Store → List Call → List (Call × Said)
+abbrev pub logs : Channel → List Call → List (Call × Said)
 logs m [] = []
 logs m (c ∷ cs) = (c, says m c) ∷ logs (leaves m c) cs
 
@@ -66,5 +66,5 @@ saidBy r = record { refusal = r .refusal; number = r .number }
 pub data Made : State → List ℕ → List Call → State → List ℕ → List (Call × Said) → Type 0 where
   none : {s : State} {b : List ℕ} → Made s b [] s b []
   made : {s t : State} {b x d : List ℕ} {c : Call} {cs : List Call} {r : Answer} {es : List (Call × Said)}
-      → r ≡ returned (store s b) c → x ≡ leaves (store s b) c .memory → Made (r .state) x cs t d es
+      → r ≡ returned (channel s b) c → x ≡ leaves (channel s b) c .memory → Made (r .state) x cs t d es
       → Made s b (c ∷ cs) t d ((c, saidBy r) ∷ es)

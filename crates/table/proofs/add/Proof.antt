@@ -9,7 +9,7 @@ use Rattle.octets.specs.Lists.{has}
 use Rattle.octets.proofs.Refusals.{answer-refused, answer-accepted}
 use Rattle.record.specs.Record.{capacity}
 use Rattle.table.specs.Table.{same}
-use Rattle.table.specs.Memory.{store, records, read}
+use Rattle.table.specs.Memory.{channel, records, read}
 use Rattle.table.specs.Steps.{added, addedMemory}
 use Rattle.table.proofs.Memory.{held, packed-end}
 use borrow.Author.Needs.{needs}
@@ -22,7 +22,7 @@ cast-n c = search needs
 has-same-requires : tie.Need-has-same-requires
 has-same-requires c κs =
     let s = c .before .before .before in
-    let M = store (s .args .s) (now (s .args .mem)) in
+    let M = channel (s .args .s) (now (s .args .mem)) in
     let k = held M (s .pre) in
     k .room
 
@@ -36,7 +36,7 @@ returns : tie.Need-returns
 unfolding added addedMemory read records
 returns c =
     let s = c .before .before .before .before .before .before in
-    let M = store (s .args .s) (now (s .args .mem)) in
+    let M = channel (s .args .s) (now (s .args .mem)) in
     let f : has (same (s .args .x)) (records M) ≡ true = sym (c .before .before .has-same .ensures) ∙ c .before .if1 .taken in
     (c .refuse .ensures ∙ answer-refused _ _ (rw f) (omega arith), answer-refused _ _ {n = 16} (rw f) (omega arith))
 
@@ -53,7 +53,7 @@ returns-2 : tie.Need-returns-2
 unfolding added addedMemory read records
 returns-2 c =
     let s = c .before .before .before .before .before .before .before .before .before in
-    let M = store (s .args .s) (now (s .args .mem)) in
+    let M = channel (s .args .s) (now (s .args .mem)) in
     let k = held M (s .pre) in
     let f : has (same (s .args .x)) (records M) ≡ false = sym (c .before .before .before .before .before .has-same .ensures) ∙ c .before .before .before .before .if1 .left in
     let full = eq-eqb _ _ (c .before .if2 .taken ∙ c .before .before .capacity .ensures) in
@@ -65,7 +65,7 @@ store-requires c κs = search needs
 add-t15 : tie.Need-add-t15
 add-t15 c =
     let s = c .before .before .before .before .before .before .before .before .before .before .before .before .before in
-    let M = store (s .args .s) (now (s .args .mem)) in
+    let M = channel (s .args .s) (now (s .args .mem)) in
     let k = held M (s .pre) in
     omega (arith, k .room, k .capacity-most)
 
@@ -76,7 +76,7 @@ returns-3 : tie.Need-returns-3
 unfolding added addedMemory read records
 returns-3 c =
     let s = c .before .before .before .before .before .before .before .before .before .before .before .before .before in
-    let M = store (s .args .s) (now (s .args .mem)) in
+    let M = channel (s .args .s) (now (s .args .mem)) in
     let k = held M (s .pre) in
     let f : has (same (s .args .x)) (records M) ≡ false = sym (c .before .before .before .before .before .before .before .before .before .has-same .ensures) ∙ c .before .before .before .before .before .before .before .before .if1 .left in
     let other : M .count ≡ capacity (now (s .args .mem)) → ⊥ = λ e. c .before .before .before .before .before .if2 .left (e ∙ sym (c .before .before .before .before .before .before .capacity .ensures)) in

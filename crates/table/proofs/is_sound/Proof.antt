@@ -4,7 +4,7 @@ use mathlib.Core.Bool.{true, false}
 use denote.Ref.{now}
 use Rattle.octets.specs.Lists.{every}
 use Rattle.table.specs.Table.{good}
-use Rattle.table.specs.Memory.{store, records, fits, sound}
+use Rattle.table.specs.Memory.{channel, records, numbersFit, sound}
 use Rattle.table.proofs.Memory.{fits-room}
 use borrow.Author.Needs.{needs}
 use Rattle.table.proofs.is_sound.Statement.{statement}
@@ -19,7 +19,7 @@ cast-n c = search needs
 all-good-requires : tie.Need-all-good-requires
 all-good-requires c κs =
     let s = c .before .before .before .before in
-    fits-room (store (s .args .s) (now (s .args .mem))) (sym (c .before .before .numbers-fit .ensures) ∙ c .before .if1 .taken)
+    fits-room (channel (s .args .s) (now (s .args .mem))) (sym (c .before .before .numbers-fit .ensures) ∙ c .before .if1 .taken)
 
 is-clear-requires : tie.Need-is-clear-requires
 is-clear-requires c κs = search needs
@@ -28,8 +28,8 @@ returns : tie.Need-returns
 unfolding sound records
 returns c =
     let s = c .before .before .before .before .before .before .before .args in
-    let M = store (s .s) (now (s .mem)) in
-    let f : fits M ≡ true = sym (c .before .before .before .before .before .numbers-fit .ensures) ∙ c .before .before .before .before .if1 .taken in
+    let M = channel (s .s) (now (s .mem)) in
+    let f : numbersFit M ≡ true = sym (c .before .before .before .before .before .numbers-fit .ensures) ∙ c .before .before .before .before .if1 .taken in
     let g : every (good (M .m1) (M .now)) (records M) ≡ true = sym (c .before .before .all-good .ensures) ∙ c .before .if2 .taken in
     rw (f, g, c .is-clear .ensures)
 
@@ -37,8 +37,8 @@ returns-2 : tie.Need-returns-2
 unfolding sound records
 returns-2 c =
     let s = c .before .before .before .before .before .before .args in
-    let M = store (s .s) (now (s .mem)) in
-    let f : fits M ≡ true = sym (c .before .before .before .before .numbers-fit .ensures) ∙ c .before .before .before .if1 .taken in
+    let M = channel (s .s) (now (s .mem)) in
+    let f : numbersFit M ≡ true = sym (c .before .before .before .before .numbers-fit .ensures) ∙ c .before .before .before .if1 .taken in
     let g : every (good (M .m1) (M .now)) (records M) ≡ false = sym (c .before .all-good .ensures) ∙ c .if2 .left in
     rw (f, g)
 
@@ -46,7 +46,7 @@ returns-3 : tie.Need-returns-3
 unfolding sound
 returns-3 c =
     let s = c .before .before .before .args in
-    let f : fits (store (s .s) (now (s .mem))) ≡ false = sym (c .before .numbers-fit .ensures) ∙ c .if1 .left in
+    let f : numbersFit (channel (s .s) (now (s .mem))) ≡ false = sym (c .before .numbers-fit .ensures) ∙ c .if1 .left in
     rw f
 
 pub is-sound-spec : {M : Type 1} → statement M

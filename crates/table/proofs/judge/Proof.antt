@@ -6,7 +6,7 @@ use borrow.Author.Needs.{needs}
 use denote.Ref.{now}
 use Rattle.octets.specs.Lists.{keep}
 use Rattle.series.specs.Series.{reserves}
-use Rattle.table.specs.Memory.{store, records}
+use Rattle.table.specs.Memory.{channel, records}
 use Rattle.table.specs.Slots.{slotState}
 use Rattle.table.proofs.Loops.{toCome, toCome-next, toCome-none}
 use Rattle.table.proofs.Slots.{judged, judged-start, judged-end, judged-near, judged-next}
@@ -15,7 +15,7 @@ use Rattle.table.proofs.judge.Tie as tie
 
 abbrev Inv-loop : tie.InvT-loop
 Inv-loop s mem slot n any₀ i₀ any i =
-    slotState (s .m1) (records (store s mem)) slot ≡ judged any (keep (λ r. reserves (s .m1) r slot) (toCome i n mem))
+    slotState (s .m1) (records (channel s mem)) slot ≡ judged any (keep (λ r. reserves (s .m1) r slot) (toCome i n mem))
 
 abbrev μ-loop : tie.MeasureT-loop
 μ-loop s mem slot n any₀ i₀ any i = n - i

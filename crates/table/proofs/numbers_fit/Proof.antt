@@ -1,5 +1,5 @@
 -- `table::numbers_fit` meets its contract: it computes the definition. Assumes nothing.
-use Rattle.table.specs.Memory.{fits}
+use Rattle.table.specs.Memory.{numbersFit}
 use borrow.Author.Needs.{needs}
 use Rattle.table.proofs.numbers_fit.Statement.{statement}
 use Rattle.table.proofs.numbers_fit.Tie as tie
@@ -17,7 +17,7 @@ capacity-requires : tie.Need-capacity-requires
 capacity-requires c κs = search needs
 
 returns : tie.Need-returns
-unfolding fits
+unfolding numbersFit
 returns c = cc
 
 pub numbers-fit-spec : {M : Type 1} → statement M

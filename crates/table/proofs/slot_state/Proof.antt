@@ -5,7 +5,7 @@ use mathlib.Core.Bool.{true, false}
 use denote.Ref.{now}
 use borrow.Author.Tests.{lt-ltb, le-ltb}
 use Rattle.octets.proofs.Refusals.{answer-refused, answer-accepted}
-use Rattle.table.specs.Memory.{store, sound, read}
+use Rattle.table.specs.Memory.{channel, sound, read}
 use Rattle.table.specs.Slots.{slotAnswer}
 use borrow.Author.Needs.{needs}
 use Rattle.table.proofs.slot_state.Statement.{statement}
@@ -18,14 +18,14 @@ returns : tie.Need-returns
 unfolding slotAnswer read
 returns c =
     let s = c .before .before .before .before .before .args in
-    let h : sound (store (s .s) (now (s .mem))) ≡ true = sym (c .before .before .before .is-sound .ensures) ∙ c .before .before .if1 .taken in
+    let h : sound (channel (s .s) (now (s .mem))) ≡ true = sym (c .before .before .before .is-sound .ensures) ∙ c .before .before .if1 .taken in
     answer-refused _ _ (rw (h, lt-ltb _ _ (c .if2 .taken))) (omega arith)
 
 returns-2 : tie.Need-returns-2
 unfolding slotAnswer read
 returns-2 c =
     let s = c .before .before .before .before .before .before .args in
-    let h : sound (store (s .s) (now (s .mem))) ≡ true = sym (c .before .before .before .before .is-sound .ensures) ∙ c .before .before .before .if1 .taken in
+    let h : sound (channel (s .s) (now (s .mem))) ≡ true = sym (c .before .before .before .before .is-sound .ensures) ∙ c .before .before .before .if1 .taken in
     answer-refused _ _ (rw (h, le-ltb _ _ (c .before .if2 .left), lt-ltb _ _ (c .if3 .taken))) (omega arith)
 
 judge-requires : tie.Need-judge-requires
@@ -35,14 +35,14 @@ returns-3 : tie.Need-returns-3
 unfolding slotAnswer read
 returns-3 c =
     let s = c .before .before .before .before .before .before .before .args in
-    let h : sound (store (s .s) (now (s .mem))) ≡ true = sym (c .before .before .before .before .before .is-sound .ensures) ∙ c .before .before .before .before .if1 .taken in
+    let h : sound (channel (s .s) (now (s .mem))) ≡ true = sym (c .before .before .before .before .before .is-sound .ensures) ∙ c .before .before .before .before .if1 .taken in
     c .judge .ensures ∙ answer-accepted _ _ (rw (h, le-ltb _ _ (c .before .before .if2 .left), le-ltb _ _ (c .before .if3 .left)))
 
 returns-4 : tie.Need-returns-4
 unfolding slotAnswer read
 returns-4 c =
     let s = c .before .before .before .args in
-    let h : sound (store (s .s) (now (s .mem))) ≡ false = sym (c .before .is-sound .ensures) ∙ c .if1 .left in
+    let h : sound (channel (s .s) (now (s .mem))) ≡ false = sym (c .before .is-sound .ensures) ∙ c .if1 .left in
     answer-refused _ _ (rw h) (omega arith)
 
 pub slot-state-spec : {M : Type 1} → statement M

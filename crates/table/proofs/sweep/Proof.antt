@@ -6,7 +6,7 @@ use denote.Ref.{now}
 use lib.ListN.{length}
 use Rattle.octets.specs.Lists.{keep}
 use Rattle.record.specs.Record.{capacity}
-use Rattle.table.specs.Memory.{store, records}
+use Rattle.table.specs.Memory.{channel, records}
 use Rattle.table.specs.Steps.{stays}
 use Rattle.table.proofs.Memory.{held, length-kept, packed-front}
 use borrow.Author.Needs.{needs}
@@ -19,7 +19,7 @@ cast-n c = search needs
 compact-requires : tie.Need-compact-requires
 compact-requires c κs =
     let s = c .before .before .before in
-    let M = store (s .args .s) (now (s .args .mem)) in
+    let M = channel (s .args .s) (now (s .args .mem)) in
     let k = held M (s .pre) in
     k .room
 
@@ -30,7 +30,7 @@ sub-t12 : tie.Need-sub-t12
 unfolding records
 sub-t12 c =
     let s = c .before .before .before .before .before .before .before .before .before .before in
-    let M = store (s .args .s) (now (s .args .mem)) in
+    let M = channel (s .args .s) (now (s .args .mem)) in
     let k = held M (s .pre) in
     let kept : c .before .before .before .before .before .before .compact .result ≡ length (keep (stays (s .args .rule)) (records M)) = c .before .before .before .before .before .before .compact .ensures .0 in
     omega (arith, length-kept M k (stays (s .args .rule)))
@@ -42,7 +42,7 @@ cast-t14 : tie.Need-cast-t14
 unfolding records
 cast-t14 c =
     let s = c .before .before .before .before .before .before .before .before .before .before in
-    let M = store (s .args .s) (now (s .args .mem)) in
+    let M = channel (s .args .s) (now (s .args .mem)) in
     let k = held M (s .pre) in
     let kept : c .before .before .before .before .before .before .compact .result ≡ length (keep (stays (s .args .rule)) (records M)) = c .before .before .before .before .before .before .compact .ensures .0 in
     omega (arith, length-kept M k (stays (s .args .rule)), k .room, k .capacity-most)
@@ -54,7 +54,7 @@ returns : tie.Need-returns
 unfolding records
 returns c =
     let s = c .before .before .before .before .before .before .before .before .before .before in
-    let M = store (s .args .s) (now (s .args .mem)) in
+    let M = channel (s .args .s) (now (s .args .mem)) in
     let k = held M (s .pre) in
     let kept : c .before .before .before .before .before .before .compact .result ≡ length (keep (stays (s .args .rule)) (records M)) = c .before .before .before .before .before .before .compact .ensures .0 in
     let room : length (keep (stays (s .args .rule)) (records M)) ≤ capacity (now (s .args .mem)) = omega (arith, length-kept M k (stays (s .args .rule)), k .room) in (

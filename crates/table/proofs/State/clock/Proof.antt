@@ -7,7 +7,7 @@ use mathlib.Core.Bool.{not}
 use borrow.Author.Tests.{lt-ltb, le-ltb}
 use Rattle.record.specs.declared.Rec.{Rec}
 use Rattle.table.specs.Table.{clock, lasts}
-use Rattle.table.specs.Memory.{store, sound, refusal, read}
+use Rattle.table.specs.Memory.{channel, sound, refusal, read}
 use Rattle.table.specs.Steps.{stays}
 use Rattle.table.proofs.Memory.{held}
 use Rattle.table.proofs.Calls.{refusal-unsound, refusal-sound, refused-gives, sweep-gives}
@@ -28,7 +28,7 @@ returns : tie.Need-returns
 unfolding read
 returns c =
     let s = c .before .before .before .before .before .before .before .args in
-    let M = store (s .self) (now (s .mem)) in
+    let M = channel (s .self) (now (s .mem)) in
     let h : sound M ≡ true = sym (c .before .before .before .before .is-sound .ensures) ∙ c .before .before .before .if1 .taken in
     let g = refused-gives M (clock (s .slot)) 12 (sym (refusal-sound M (clock (s .slot)) h ∙ rw (lt-ltb _ _ (c .before .if2 .taken)))) (omega arith) in
     (c .refuse .ensures ∙ g .0, g .1)
@@ -43,7 +43,7 @@ returns-2 : tie.Need-returns-2
 unfolding read
 returns-2 c =
     let s = c .before .before .before .before .before .before .before .before .args in
-    let M = store (s .self) (now (s .mem)) in
+    let M = channel (s .self) (now (s .mem)) in
     let h : sound M ≡ true = sym (c .before .before .before .before .before .is-sound .ensures) ∙ c .before .before .before .before .if1 .taken in
     let g = refused-gives M (clock (s .slot)) 13 (sym (refusal-sound M (clock (s .slot)) h ∙ rw (le-ltb _ _ (c .before .before .if2 .left), lt-ltb _ _ (c .before .if3 .taken)))) (omega arith) in
     (c .refuse2 .ensures ∙ g .0, g .1)
@@ -51,7 +51,7 @@ returns-2 c =
 sweep-requires : tie.Need-sweep-requires
 sweep-requires c κs =
     let s = c .before .before .before .before .before .before .before .before .args in
-    let M = store (s .self) (now (s .mem)) in
+    let M = channel (s .self) (now (s .mem)) in
     let h : sound M ≡ true = sym (c .before .before .before .before .before .is-sound .ensures) ∙ c .before .before .before .before .if1 .taken in
     h
 
@@ -62,7 +62,7 @@ returns-3 : tie.Need-returns-3
 unfolding read stays
 returns-3 c =
     let s = c .before .before .before .before .before .before .before .before .before .before .before .args in
-    let M = store (s .self) (now (s .mem)) in
+    let M = channel (s .self) (now (s .mem)) in
     let h : sound M ≡ true = sym (c .before .before .before .before .before .before .before .before .is-sound .ensures) ∙ c .before .before .before .before .before .before .before .if1 .taken in
     let z : 0 ≡ refusal M (clock (s .slot)) = sym (refusal-sound M (clock (s .slot)) h ∙ rw (le-ltb _ _ (c .before .before .before .before .before .if2 .left), le-ltb _ _ (c .before .before .before .before .if3 .left))) in
     let live = lasts (M .m1) (s .slot) in
@@ -78,7 +78,7 @@ same-length-4 c = search needs
 returns-4 : tie.Need-returns-4
 returns-4 c =
     let s = c .before .before .before .before .before .args in
-    let M = store (s .self) (now (s .mem)) in
+    let M = channel (s .self) (now (s .mem)) in
     let h : sound M ≡ false = sym (c .before .before .is-sound .ensures) ∙ c .before .if1 .left in
     let g = refused-gives M (clock (s .slot)) 11 (refusal-unsound M (clock (s .slot)) h) (omega arith) in
     (c .refuse3 .ensures ∙ g .0, g .1)

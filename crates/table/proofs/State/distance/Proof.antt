@@ -7,7 +7,7 @@ use borrow.Author.Tests.{le-leb, lt-leb}
 use lib.ListN.{length-map}
 use Rattle.distance.specs.Distances.{limitFits}
 use Rattle.table.specs.Table.{distance, of, setFar}
-use Rattle.table.specs.Memory.{store, records, sound, refusal, read, write}
+use Rattle.table.specs.Memory.{channel, records, sound, refusal, read, write}
 use Rattle.table.proofs.Memory.{held, length-kept, packed-mapped}
 use Rattle.table.proofs.Calls.{refusal-unsound, refusal-sound, refused-gives, accepted-gives}
 use borrow.Author.Needs.{needs}
@@ -26,7 +26,7 @@ same-length c = search needs
 returns : tie.Need-returns
 returns c =
     let s = c .before .before .before .before .before .before .args in
-    let M = store (s .self) (now (s .mem)) in
+    let M = channel (s .self) (now (s .mem)) in
     let h : sound M ≡ true = sym (c .before .before .before .is-sound .ensures) ∙ c .before .before .if1 .taken in
     let g = refused-gives M (distance (s .station) (s .d) (s .limit)) 8 (sym (refusal-sound M (distance (s .station) (s .d) (s .limit)) h ∙ rw (le-leb _ _ (c .before .if2 .taken)))) (omega arith) in
     (c .refuse .ensures ∙ g .0, g .1)
@@ -43,7 +43,7 @@ cast-n c = search needs
 mark-all-requires : tie.Need-mark-all-requires
 mark-all-requires c κs =
     let s = c .before .before .before .before .before .before .before .before .before .before .args in
-    let M = store (s .self) (now (s .mem)) in
+    let M = channel (s .self) (now (s .mem)) in
     let h : sound M ≡ true = sym (c .before .before .before .before .before .before .before .is-sound .ensures) ∙ c .before .before .before .before .before .before .if1 .taken in
     held M h .room
 
@@ -51,7 +51,7 @@ cast-t16 : tie.Need-cast-t16
 unfolding records
 cast-t16 c =
     let s = c .before .before .before .before .before .before .before .before .before .before .before .before .before .args in
-    let M = store (s .self) (now (s .mem)) in
+    let M = channel (s .self) (now (s .mem)) in
     let h : sound M ≡ true = sym (c .before .before .before .before .before .before .before .before .before .before .is-sound .ensures) ∙ c .before .before .before .before .before .before .before .before .before .if1 .taken in
     omega (arith, c .before .before .mark-all .ensures .0, length-kept M (held M h) (of (s .station)), held M h .room, held M h .capacity-most)
 
@@ -62,7 +62,7 @@ returns-2 : tie.Need-returns-2
 unfolding read write records
 returns-2 c =
     let s = c .before .before .before .before .before .before .before .before .before .before .before .before .before .args in
-    let M = store (s .self) (now (s .mem)) in
+    let M = channel (s .self) (now (s .mem)) in
     let h : sound M ≡ true = sym (c .before .before .before .before .before .before .before .before .before .before .is-sound .ensures) ∙ c .before .before .before .before .before .before .before .before .before .if1 .taken in
     let k = held M h in
     let fit : limitFits (s .limit) ≡ true = sym (c .before .before .before .before .before .before .before .limit-fits .ensures) ∙ c .before .before .before .before .before .before .if3 .taken in
@@ -81,7 +81,7 @@ same-length-3 c = search needs
 returns-3 : tie.Need-returns-3
 returns-3 c =
     let s = c .before .before .before .before .before .before .before .before .args in
-    let M = store (s .self) (now (s .mem)) in
+    let M = channel (s .self) (now (s .mem)) in
     let h : sound M ≡ true = sym (c .before .before .before .before .before .is-sound .ensures) ∙ c .before .before .before .before .if1 .taken in
     let fit : limitFits (s .limit) ≡ false = sym (c .before .before .limit-fits .ensures) ∙ c .before .if3 .left in
     let g = refused-gives M (distance (s .station) (s .d) (s .limit)) 18 (sym (refusal-sound M (distance (s .station) (s .d) (s .limit)) h ∙ rw (lt-leb _ _ (c .before .before .before .if2 .left), fit))) (omega arith) in
@@ -96,7 +96,7 @@ same-length-4 c = search needs
 returns-4 : tie.Need-returns-4
 returns-4 c =
     let s = c .before .before .before .before .before .args in
-    let M = store (s .self) (now (s .mem)) in
+    let M = channel (s .self) (now (s .mem)) in
     let h : sound M ≡ false = sym (c .before .before .is-sound .ensures) ∙ c .before .if1 .left in
     let g = refused-gives M (distance (s .station) (s .d) (s .limit)) 11 (refusal-unsound M (distance (s .station) (s .d) (s .limit)) h) (omega arith) in
     (c .refuse3 .ensures ∙ g .0, g .1)

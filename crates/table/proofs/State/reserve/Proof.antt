@@ -5,7 +5,7 @@ use mathlib.Core.Bool.{true, false}
 use denote.Ref.{now}
 use Rattle.octets.specs.Refusals.{firstOf}
 use Rattle.table.specs.Table.{reserve, requestTests}
-use Rattle.table.specs.Memory.{store, sound}
+use Rattle.table.specs.Memory.{channel, sound}
 use Rattle.table.proofs.Memory.{held}
 use Rattle.table.proofs.Calls.{refusal-unsound, refused-gives, request-passed, request-refused, request-added}
 use borrow.Author.Needs.{needs}
@@ -24,7 +24,7 @@ far-bit-requires c κs = search needs
 add-t12 : tie.Need-add-t12
 add-t12 c =
     let s = c .before .before .before .before .before .before .before .before .before .args in
-    let M = store (s .self) (now (s .mem)) in
+    let M = channel (s .self) (now (s .mem)) in
     let h : sound M ≡ true = sym (c .before .before .before .before .before .before .is-sound .ensures) ∙ c .before .before .before .before .before .if1 .taken in
     let q = s .q in
     let z : firstOf (requestTests q) ≡ 0 = sym (c .before .before .before .before .judge-request .ensures) ∙ c .before .before .before .if2 .taken in
@@ -54,7 +54,7 @@ cast-t15 c =
 add-requires : tie.Need-add-requires
 add-requires c κs =
     let s = c .before .before .before .before .before .before .before .before .before .before .before .before .before .args in
-    let M = store (s .self) (now (s .mem)) in
+    let M = channel (s .self) (now (s .mem)) in
     let h : sound M ≡ true = sym (c .before .before .before .before .before .before .before .before .before .before .is-sound .ensures) ∙ c .before .before .before .before .before .before .before .before .before .if1 .taken in
     h
 
@@ -64,7 +64,7 @@ same-length c = search needs
 returns : tie.Need-returns
 returns c =
     let s = c .before .before .before .before .before .before .before .before .before .before .before .before .before .before .before .before .args in
-    let M = store (s .self) (now (s .mem)) in
+    let M = channel (s .self) (now (s .mem)) in
     let h : sound M ≡ true = sym (c .before .before .before .before .before .before .before .before .before .before .before .before .before .is-sound .ensures) ∙ c .before .before .before .before .before .before .before .before .before .before .before .before .if1 .taken in
     let q = s .q in
     let z : firstOf (requestTests q) ≡ 0 = sym (c .before .before .before .before .before .before .before .before .before .before .before .judge-request .ensures) ∙ c .before .before .before .before .before .before .before .before .before .before .if2 .taken in
@@ -81,7 +81,7 @@ same-length-2 c = search needs
 returns-2 : tie.Need-returns-2
 returns-2 c =
     let s = c .before .before .before .before .before .before .before .args in
-    let M = store (s .self) (now (s .mem)) in
+    let M = channel (s .self) (now (s .mem)) in
     let h : sound M ≡ true = sym (c .before .before .before .before .is-sound .ensures) ∙ c .before .before .before .if1 .taken in
     let e = c .before .before .judge-request .ensures in
     let z : firstOf (requestTests (s .q)) ≡ 0 → ⊥ = λ w. c .before .if2 .left (e ∙ w) in
@@ -97,7 +97,7 @@ same-length-3 c = search needs
 returns-3 : tie.Need-returns-3
 returns-3 c =
     let s = c .before .before .before .before .before .args in
-    let M = store (s .self) (now (s .mem)) in
+    let M = channel (s .self) (now (s .mem)) in
     let h : sound M ≡ false = sym (c .before .before .is-sound .ensures) ∙ c .before .if1 .left in
     let g = refused-gives M (reserve (s .q)) 11 (refusal-unsound M (reserve (s .q)) h) (omega arith) in
     (c .refuse2 .ensures ∙ g .0, g .1)

@@ -7,7 +7,7 @@ use mathlib.Core.Bool.{not, Bool·not-not}
 use borrow.Author.Tests.{le-leb, lt-leb}
 use Rattle.record.specs.declared.Rec.{Rec}
 use Rattle.table.specs.Table.{wipe, of}
-use Rattle.table.specs.Memory.{store, sound, refusal, read}
+use Rattle.table.specs.Memory.{channel, sound, refusal, read}
 use Rattle.table.specs.Steps.{stays}
 use Rattle.table.proofs.Memory.{held}
 use Rattle.table.proofs.Calls.{refusal-unsound, refusal-sound, refused-gives, sweep-gives}
@@ -27,7 +27,7 @@ same-length c = search needs
 returns : tie.Need-returns
 returns c =
     let s = c .before .before .before .before .before .before .args in
-    let M = store (s .self) (now (s .mem)) in
+    let M = channel (s .self) (now (s .mem)) in
     let h : sound M ≡ true = sym (c .before .before .before .is-sound .ensures) ∙ c .before .before .if1 .taken in
     let g = refused-gives M (wipe (s .station)) 8 (sym (refusal-sound M (wipe (s .station)) h ∙ rw (le-leb _ _ (c .before .if2 .taken)))) (omega arith) in
     (c .refuse .ensures ∙ g .0, g .1)
@@ -35,7 +35,7 @@ returns c =
 sweep-requires : tie.Need-sweep-requires
 sweep-requires c κs =
     let s = c .before .before .before .before .before .before .args in
-    let M = store (s .self) (now (s .mem)) in
+    let M = channel (s .self) (now (s .mem)) in
     let h : sound M ≡ true = sym (c .before .before .before .is-sound .ensures) ∙ c .before .before .if1 .taken in
     h
 
@@ -46,7 +46,7 @@ returns-2 : tie.Need-returns-2
 unfolding read stays
 returns-2 c =
     let s = c .before .before .before .before .before .before .before .before .before .args in
-    let M = store (s .self) (now (s .mem)) in
+    let M = channel (s .self) (now (s .mem)) in
     let h : sound M ≡ true = sym (c .before .before .before .before .before .before .is-sound .ensures) ∙ c .before .before .before .before .before .if1 .taken in
     let z : 0 ≡ refusal M (wipe (s .station)) = sym (refusal-sound M (wipe (s .station)) h ∙ rw (lt-leb _ _ (c .before .before .before .before .if2 .left))) in
     let g = sweep-gives M (held M h) (wipe (s .station)) z refl (M .now) (λ (r : Rec). not (of (s .station) r)) (of (s .station)) (λ (r : Rec). sym (Bool·not-not (of (s .station) r))) refl refl in
@@ -61,7 +61,7 @@ same-length-3 c = search needs
 returns-3 : tie.Need-returns-3
 returns-3 c =
     let s = c .before .before .before .before .before .args in
-    let M = store (s .self) (now (s .mem)) in
+    let M = channel (s .self) (now (s .mem)) in
     let h : sound M ≡ false = sym (c .before .before .is-sound .ensures) ∙ c .before .if1 .left in
     let g = refused-gives M (wipe (s .station)) 11 (refusal-unsound M (wipe (s .station)) h) (omega arith) in
     (c .refuse2 .ensures ∙ g .0, g .1)
