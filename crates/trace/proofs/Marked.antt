@@ -1,5 +1,6 @@
--- P6 and P7 of record T: over octets they are what they are over records, and those by computing. Assumes nothing.
+-- Cases of record T, P6 and P7 among them: over octets they are what they are over records, and those by computing. Assumes nothing.
 use Prim.Native.Nat.{ℕ}
+use native.Mathlib.Omega.{arith}
 use mathlib.Core.Path.{_≡_, refl, ap}
 use mathlib.Core.List.{List, [], _∷_}
 use lib.Ieee.{ofInt, le}
@@ -9,10 +10,11 @@ use Rattle.codec.specs.Parameters as Parameters
 use Rattle.record.specs.Record.{size, capacity}
 use Rattle.series.specs.Series.{someBelow, inBlock, reserves, lastSlot}
 use Rattle.series.specs.Claims.{recordT}
-use Rattle.table.specs.Table.{Table, Call, clock, reserve, lasts}
+use Rattle.table.specs.Table.{Table, Call, clock, reserve, wipe, lasts, same}
 use Rattle.table.specs.Memory.{records, read, write, leaves, openRefusal}
 use Rattle.table.specs.Slots.{stateBy, slotState, slotAnswer}
-use Rattle.trace.specs.Claims.{requestT, tableT, MarkedCases}
+use Rattle.trace.specs.Sequences.{runs, without, is}
+use Rattle.trace.specs.Claims.{requestT, opened1, tableT, MarkedCases, PremiseNeeded}
 use Rattle.trace.proofs.Kept.{after, run, Sound, sound-run, sound-after}
 use Rattle.trace.proofs.Written.{read-write, leaves-write, runs-write, empty, sound-empty, opened-write}
 use Rattle.trace.proofs.Looks.{slotOn, slot-write}
@@ -29,7 +31,7 @@ accepted = refl
 
 -- the calls that bring T, and the table then, over records
 abbrev calls : List Call
-calls = clock 100 ∷ reserve requestT ∷ []
+calls = clock 100 ∷ reserve (requestT 1) ∷ []
 
 abbrev held : Table
 held = record { m1 = 4500; now = 100; capacity = 1; records = recordT ∷ [] }
@@ -68,3 +70,24 @@ marked =
       kept7609 = clocked _;
       gone7610 = clocked _;
     }
+
+-- ---- the premise of demand 3
+
+abbrev both : List Call
+both = reserve (requestT 1) ∷ reserve (requestT 2) ∷ []
+
+-- how many records both stations' calls leave after the wipe, and station 2's alone
+none-left : leaves (runs opened1 both) (wipe 1) .count ≡ 0
+unfolding after answer ofInt le capacity size same write
+none-left =
+    let k = sound-empty 4500 lent accepted in
+    rw (opened-write 4500 lent accepted, runs-write (empty 4500 lent) k both, leaves-write (run (empty 4500 lent) both) (sound-run (empty 4500 lent) both k) (wipe 1))
+
+one-left : runs opened1 (without (is 1) both) .count ≡ 1
+unfolding after answer ofInt le capacity size write
+one-left = rw (opened-write 4500 lent accepted, runs-write (empty 4500 lent) (sound-empty 4500 lent accepted) (reserve (requestT 2) ∷ []))
+
+pub premise-needed : PremiseNeeded
+premise-needed e =
+    let same-count = ap (λ u. u .count) e in
+    omega (arith, none-left, one-left)

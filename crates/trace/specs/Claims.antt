@@ -77,12 +77,17 @@ SlotStateLooks = (m : Channel) (slot : ℕ) → said (slotAnswer m slot) ≡ say
 
 -- ---- the marked cases of record T
 
--- T, alone in its table: station 1, M1 4500, now 100, bs 5, rate 3, superframes 2, length 5, near
-abbrev pub requestT : Request
-requestT = record { station = 1; rate = 3; superframes = 2; bs = 5; length = 5; distance = Unknown; limit = num 150 }
+-- what a station asks for T, near: rate 3, superframes 2, bs 5, length 5
+abbrev pub requestT : ℕ → Request
+requestT s = record { station = s; rate = 3; superframes = 2; bs = 5; length = 5; distance = Unknown; limit = num 150 }
 
+-- room for one record
+abbrev pub opened1 : Channel
+opened1 = opened 4500 (replicate 12 0)
+
+-- T, alone in its table: station 1, M1 4500, now 100
 abbrev pub tableT : Channel
-tableT = runs (opened 4500 (replicate 12 0)) (clock 100 ∷ reserve requestT ∷ [])
+tableT = runs opened1 (clock 100 ∷ reserve (requestT 1) ∷ [])
 
 pub record MarkedCases : Type 0 where
   pub alone : records tableT ≡ recordT ∷ []
@@ -95,6 +100,14 @@ pub record MarkedCases : Type 0 where
   pub kept7609 : records (leaves tableT (clock 7609)) ≡ recordT ∷ []
   pub gone7610 : records (leaves tableT (clock 7610)) ≡ []
 
+-- ---- why demand 3 has its premise
+
+-- station 1 takes the only place, and station 2 is refused because the table is full: without station 1 it is not
+abbrev pub PremiseNeeded : Type 0
+PremiseNeeded =
+    let cs = reserve (requestT 1) ∷ reserve (requestT 2) ∷ [] in
+    leaves (runs opened1 cs) (wipe 1) ≡ runs opened1 (without (is 1) cs) → ⊥
+
 pub record Claims : Type 0 where
   pub wiped-without-trace : WipedWithoutTrace
   pub real-calls : RealCalls
@@ -105,3 +118,4 @@ pub record Claims : Type 0 where
   pub one-result : OneResult
   pub slot-state-looks : SlotStateLooks
   pub marked : MarkedCases
+  pub premise-needed : PremiseNeeded

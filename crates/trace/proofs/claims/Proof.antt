@@ -1,7 +1,7 @@
 -- `trace::claims` promises what the laws prove. Assumes nothing.
 use Rattle.trace.proofs.Demand3.{wiped-without-trace, real-calls, sound-opened, sound-kept, never-unsound, refused-changes-nothing, one-result}
 use Rattle.trace.proofs.Looks.{slot-state-looks}
-use Rattle.trace.proofs.Marked.{marked}
+use Rattle.trace.proofs.Marked.{marked, premise-needed}
 use Rattle.trace.proofs.claims.Statement.{statement}
 use Rattle.trace.proofs.claims.Tie as tie
 
@@ -17,6 +17,7 @@ returns c =
       one-result = one-result;
       slot-state-looks = slot-state-looks;
       marked = marked;
+      premise-needed = premise-needed;
     }
 
 pub claims-spec : {M : Type 1} → statement M
