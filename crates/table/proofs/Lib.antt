@@ -2,3 +2,5 @@ pub mod Memory
 pub mod Calls
 pub mod Loops
 pub mod Slots
+pub mod Reciprocals
+pub mod Ranges

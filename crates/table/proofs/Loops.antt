@@ -7,13 +7,13 @@ use mathlib.Core.Path.{_≡_, refl, ap, _∙_, sym}
 use mathlib.Core.Bool.{Bool, true, false, cond}
 use mathlib.Core.List.{List, [], _∷_, _++_, map, append-assoc, append-nil}
 use lib.ListN.{length, getD, take, drop, set, length-append, length-take, length-drop, length-map, drop-of-length-le}
-use lib.Seq.{slice, slice-cons, take-suc, drop-cons, getD-at, set-at, length-take-le, getD-drop, drop-drop, drop-set-lt, take-suc-set}
+use lib.Seq.{slice, slice-cons, take-suc, drop-cons, getD-at, set-at, length-take-le, getD-drop, drop-drop, drop-set-lt, take-set-le, take-suc-set}
 use Rattle.octets.specs.Lists.{keep}
 use Rattle.octets.proofs.Lists.{keep-append, length-keep}
 use Rattle.record.specs.Record.{blank, capacity, view}
 use Rattle.record.specs.declared.Rec.{Rec}
 use Rattle.record.proofs.Views.{length-view}
-use Rattle.table.specs.Steps.{sieved, moved, mapped}
+use Rattle.table.specs.Steps.{sieved, mapped}
 
 -- ---- the records still to come
 
@@ -49,8 +49,8 @@ module _ (p : Rec → Bool) (vs : List Rec) where
   abbrev pub Sifted : List Rec → ℕ → ℕ → Type 0
   Sifted w i k = (k ≡ length (keep p (take i vs))) × (take k w ≡ keep p (take i vs)) × (drop i w ≡ drop i vs)
 
-  pub sifted-next : (w : List Rec) (i k : ℕ) → i < length vs → Sifted w i k → Sifted (moved p w i k) (i + 1) (sieved p w i (k + 1) k)
-  sifted-next w i k h s = (count-next w i k h (s .0) at, rw (at, keep-more i h) (front (p (getD vs i blank))), back (p (getD w i blank)))
+  pub sifted-next : (w : List Rec) (i k : ℕ) → i < length vs → Sifted w i k → Sifted (set w k (getD w i blank)) (i + 1) (sieved p w i (k + 1) k)
+  sifted-next w i k h s = (count-next w i k h (s .0) at, rw (at, keep-more i h) (front (p (getD vs i blank))), back)
     where
       at : getD w i blank ≡ getD vs i blank
       at = simp (getD-drop, add-zero) at (ap (λ u. getD u 0 blank) (s .2))
@@ -58,16 +58,13 @@ module _ (p : Rec → Bool) (vs : List Rec) where
       room : k < length w
       room = omega (arith, s .0, kept-le i, length-drop i w, length-drop i vs, ap length (s .2))
 
-      front : (b : Bool) → take (cond b (k + 1) k) (cond b (set w k (getD vs i blank)) w) ≡ keep p (take i vs) ++ cond b (getD vs i blank ∷ []) []
+      front : (b : Bool) → take (cond b (k + 1) k) (set w k (getD vs i blank)) ≡ keep p (take i vs) ++ cond b (getD vs i blank ∷ []) []
       front true = rw (add-one, take-suc-set w k (getD vs i blank) room, s .1)
-      front false = rw append-nil (s .1)
+      front false = rw (append-nil, take-set-le k w k (getD vs i blank) (omega arith)) (s .1)
 
-      rest : drop (i + 1) w ≡ drop (i + 1) vs
-      rest = rw (← drop-drop 1 i w, ← drop-drop 1 i vs, s .2)
-
-      back : (b : Bool) → drop (i + 1) (cond b (set w k (getD w i blank)) w) ≡ drop (i + 1) vs
-      back true = rw (drop-set-lt (i + 1) w k (getD w i blank) (omega (arith, s .0, kept-le i))) rest
-      back false = rest
+      back : drop (i + 1) (set w k (getD w i blank)) ≡ drop (i + 1) vs
+      back =
+          rw (drop-set-lt (i + 1) w k (getD w i blank) (omega (arith, s .0, kept-le i)), ← drop-drop 1 i w, ← drop-drop 1 i vs, s .2)
 
 -- ---- record after record changed
 

@@ -1,10 +1,10 @@
 -- What soundness says of the memory, and what the calls leave there: records, then zeros. Assumes nothing.
-use Prim.Native.Nat.{ℕ, _+_, _-_, _*_, _<_, _≤_}
+use Prim.Native.Nat.{ℕ, _+_, _-_, _*_, _%_, _<_, _≤_}
 use native.Mathlib.Omega.{arith}
 use mathlib.Core.Path.{_≡_, ap, _∙_, sym}
 use mathlib.Core.Bool.{Bool, true, _&&_, and-eq-true-iff}
 use mathlib.Core.List.{List, [], _∷_, _++_, map}
-use lib.Dec.{leb}
+use lib.Dec.{leb, eqb}
 use lib.ListN.{length, take, drop, replicate, length-append, length-replicate, length-map, length-drop, replicate-append-replicate}
 use lib.Seq.{drop-at, drop-drop, length-take-le}
 use borrow.Author.Tests.{leb-true}
@@ -45,10 +45,20 @@ count-records : (m : Channel) → m .count ≤ capacity (m .memory) → length (
 unfolding records
 count-records m h = length-take-le (m .count) (view (m .memory)) (rw length-view h)
 
-pub fits-room : (m : Channel) → numbersFit m ≡ true → m .count ≤ capacity (m .memory)
+fits-room : (m : Channel) → numbersFit m ≡ true → m .count ≤ capacity (m .memory)
 unfolding numbersFit
 fits-room m h =
     leb-true (m .count) (capacity (m .memory)) (and-eq-true-iff (sizeFits (m .memory) && Parameters.fits 1 (m .m1) && leb (m .now) 1_000_000_000) (leb (m .count) (capacity (m .memory))) .0 h .1)
+
+pub fits-m1 : (m : Channel) → numbersFit m ≡ true → m .m1 ≤ 15360
+unfolding numbersFit Parameters.fits
+fits-m1 m h =
+    let b = m .memory in
+    let f = and-eq-true-iff (sizeFits b && Parameters.fits 1 (m .m1) && leb (m .now) 1_000_000_000) (leb (m .count) (capacity b)) .0 h in
+    let t = and-eq-true-iff (sizeFits b && Parameters.fits 1 (m .m1)) (leb (m .now) 1_000_000_000) .0 (f .0) in
+    let d = and-eq-true-iff (sizeFits b) (Parameters.fits 1 (m .m1)) .0 (t .0) in
+    let r = and-eq-true-iff (within 60 15360 (m .m1)) (eqb ((m .m1 - 60) % 60) 0) .0 (d .1) in
+    within-true 60 15360 (m .m1) (r .0) .1
 
 pub held : (m : Channel) → sound m ≡ true → Held m
 unfolding sound numbersFit

@@ -1,31 +1,35 @@
 -- What the private functions promise: the code's own steps. Nothing that a caller of the crate has to believe.
-use Prim.Native.Nat.{ℕ, _+_, _-_}
-use mathlib.Core.Bool.{Bool, cond, not}
+use Prim.Native.Nat.{ℕ, _+_, _-_, _*_, _^_}
+use mathlib.Core.Bool.{Bool, cond, not, _&&_, _||_}
 use mathlib.Core.List.{List, [], _∷_, _++_, map}
-use lib.ListN.{length as len, getD, take, drop, set}
+use lib.Dec.{leb, ltb}
+use lib.ListN.{length as len, getD, take, drop}
 use Rattle.octets.specs.Lists.{keep}
 use Rattle.octets.specs.Refusals.{firstOf, answer}
 use Rattle.record.specs.Record.{blank, capacity}
 use Rattle.record.specs.declared.Rec.{Rec}
+use Rattle.series.specs.Series.{someBelow}
 use Rattle.table.specs.declared.Stay.{Stay}
-use Rattle.table.specs.declared.Stay.the-variants.{Other, Live}
 use Rattle.table.specs.declared.State.{State}
 use Rattle.table.specs.declared.Answer.{Answer}
 use Rattle.table.specs.Table.{of, lasts, placeTests}
 use Rattle.table.specs.Memory.{Channel, stateOf, records, read, packed}
 
--- which records stay
+-- x is 2^31 over n, rounded up
+abbrev pub isReciprocal : ℕ → ℕ → Bool
+isReciprocal n x = leb (2 ^ 31) (n * x) && ltb (n * x) (2 ^ 31 + n)
+
+-- a list that has, at each rate from 1 to 60, its reciprocal
+unfoldable pub areReciprocals : List ℕ → Bool
+areReciprocals xs = not (someBelow 60 (λ k. not (isReciprocal (k + 1) (getD xs (k + 1) 0))))
+
+-- a record of any station, or of another one only, that is not over at a slot
 unfoldable pub stays : Stay → Rec → Bool
-stays (Other s) r = not (of s r)
-stays (Live m1 t) r = lasts m1 t r
+stays rule r = (rule .any || not (of (rule .station) r)) && lasts (rule .m1) (rule .slot) r
 
 -- a where record i passes, b where not
-abbrev pub sieved {ℓ} : {A : Type ℓ} → (Rec → Bool) → List Rec → ℕ → A → A → A
+abbrev pub sieved : (Rec → Bool) → List Rec → ℕ → ℕ → ℕ → ℕ
 sieved p vs i a b = cond (p (getD vs i blank)) a b
-
--- record i moved down to place k where it passes
-abbrev pub moved : (Rec → Bool) → List Rec → ℕ → ℕ → List Rec
-moved p vs i k = sieved p vs i (set vs k (getD vs i blank)) vs
 
 -- the first i records changed
 unfoldable pub mapped : (Rec → Rec) → ℕ → List Rec → List Rec

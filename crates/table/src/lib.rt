@@ -3,17 +3,18 @@ use distance::Distance;
 use record::Rec;
 ghost use mathlib.Core.Path.{_≡_};
 ghost use mathlib.Core.Bool.{true};
-ghost use Prim.Native.Nat.{_+_, _≤_, _<_};
+ghost use Prim.Native.Nat.{_+_, _*_, _/_, _≤_, _<_};
 ghost use lib.ListN.{length, getD, set, take};
 ghost use Rattle.octets.specs.Lists.{keep, has, every};
 ghost use Rattle.octets.specs.Refusals.{firstOf, within};
 ghost use Rattle.codec.specs.Parameters as Parameters;
 ghost use Rattle.distance.specs.Distances as Distances;
 ghost use Rattle.record.specs.Record.{view, blank, capacity};
-ghost use Rattle.table.specs.Table.{clock, reserve, distance, wipe, good, bit, same, of, setFar, requestTests};
+ghost use Rattle.series.specs.Series.{lastSlot};
+ghost use Rattle.table.specs.Table.{clock, reserve, distance, wipe, inRange, good, bit, same, of, setFar, requestTests};
 ghost use Rattle.table.specs.Memory.{channel, records, sizeFits, numbersFit, sound, packed, leaves, returned, openLeaves, openReturned};
 ghost use Rattle.table.specs.Slots.{slotState, slotAnswer};
-ghost use Rattle.table.specs.Steps.{stays, sieved, moved, mapped, refused, swept, added, addedMemory};
+ghost use Rattle.table.specs.Steps.{areReciprocals, stays, sieved, mapped, refused, swept, added, addedMemory};
 
 // What stands beside the lent memory. It travels by value.
 pub struct State {
@@ -48,17 +49,112 @@ pub enum Slot {
     Refused(u32),
 }
 
-// Which records stay.
-enum Stay {
-    // Those of another station.
-    Other(u32),
-    // Those not over at a slot, in a table of m1 slots.
-    Live(u32, u32),
+// Which records stay: those of any station, or of another one only, that are not over at a slot, in a table of m1 slots.
+// One test for clock and wipe, without cases: the compiler writes it into each of them, and leaves out what is always true there.
+struct Stay {
+    any: bool,
+    station: u32,
+    m1: u32,
+    slot: u32,
 }
 
 // ---- soundness
 
-fn in_range(lo: u8, hi: u8, x: u8) -> bool
+// At each rate from 1 to 60, 2^31 over the rate, rounded up: a product with it stands for a division by the rate.
+const RECIPROCALS: [u32; 61] = [
+    0,
+    2147483648,
+    1073741824,
+    715827883,
+    536870912,
+    429496730,
+    357913942,
+    306783379,
+    268435456,
+    238609295,
+    214748365,
+    195225787,
+    178956971,
+    165191050,
+    153391690,
+    143165577,
+    134217728,
+    126322568,
+    119304648,
+    113025456,
+    107374183,
+    102261127,
+    97612894,
+    93368855,
+    89478486,
+    85899346,
+    82595525,
+    79536432,
+    76695845,
+    74051161,
+    71582789,
+    69273667,
+    67108864,
+    65075263,
+    63161284,
+    61356676,
+    59652324,
+    58040099,
+    56512728,
+    55063684,
+    53687092,
+    52377650,
+    51130564,
+    49941481,
+    48806447,
+    47721859,
+    46684428,
+    45691142,
+    44739243,
+    43826197,
+    42949673,
+    42107523,
+    41297763,
+    40518560,
+    39768216,
+    39045158,
+    38347923,
+    37675152,
+    37025581,
+    36398028,
+    35791395,
+];
+
+// m1 over a rate, the remainder dropped.
+fn spacing(m1: u32, rate: u32, reciprocals: &[u32; 61]) -> u32
+    requires { ⌜ (m1 ≤ 15360) × (1 ≤ rate) × (rate ≤ 60) × (areReciprocals (now reciprocals) ≡ true) ⌝ }
+    ensures { λ r. ⌜ (r ≡ m1 / rate) × (r ≤ 15360) ⌝ }
+{
+    let i = rate as usize;
+    let x = reciprocals[i];
+    ((m1 as u64) * (x as u64) / 2147483648) as u32
+}
+
+// A product that stays small.
+fn times(n: u32, m: u32) -> u32
+    requires { ⌜ (n ≤ 59) × (m ≤ 15360) ⌝ }
+    ensures { λ r. ⌜ (r ≡ n * m) × (r ≤ 906240) ⌝ }
+{
+    n * m
+}
+
+// As series::last_slot, for a record in range: 32 bits are enough, and nothing is divided.
+fn last_slot(r: Rec, m1: u32, reciprocals: &[u32; 61]) -> u32
+    requires { ⌜ (inRange r ≡ true) × (m1 ≤ 15360) × (areReciprocals (now reciprocals) ≡ true) ⌝ }
+    ensures { λ s. ⌜ s ≡ lastSlot m1 r ⌝ }
+{
+    let rate = r.rate as u32;
+    let superframes = times(r.superframes as u32 - 1, m1);
+    let blocks = times(rate - 1, spacing(m1, rate, reciprocals));
+    r.first + superframes + blocks + r.length as u32 - 1
+}
+
+fn in_range(lo: u32, hi: u32, x: u32) -> bool
     ensures { λ b. ⌜ b ≡ within lo hi x ⌝ }
 {
     let low = x < lo;
@@ -66,27 +162,44 @@ fn in_range(lo: u8, hi: u8, x: u8) -> bool
     !(low | high)
 }
 
-fn is_good(r: Rec, m1: u32, t: u32) -> bool
+// The ranges are tested here, and on widened octets: apart from the sum, or as octets, they become vector code, which is slower.
+fn is_good(r: Rec, m1: u32, t: u32, reciprocals: &[u32; 61]) -> bool
+    requires { ⌜ (m1 ≤ 15360) × (areReciprocals (now reciprocals) ≡ true) ⌝ }
     ensures { λ b. ⌜ b ≡ good m1 t r ⌝ }
 {
     let station = r.station < 134217728;
     let first = r.first <= 1000000255;
-    let rate = in_range(1, 60, r.rate);
-    let superframes = in_range(1, 3, r.superframes);
-    let length = in_range(1, 32, r.length);
+    let rate = in_range(1, 60, r.rate as u32);
+    let superframes = in_range(1, 3, r.superframes as u32);
+    let length = in_range(1, 32, r.length as u32);
     let far = r.far <= 1;
-    let last = (t as u64) <= series::last_slot(r, m1);
-    station & first & rate & superframes & length & far & last
+    if station & first & rate & superframes & length & far {
+        return t <= last_slot(r, m1, reciprocals);
+    }
+    false
+}
+
+// How many of the first n records there are. In a loop up to it the compiler leaves out load's own test.
+fn held_count(mem: &[u8], n: usize) -> usize
+    ensures { λ r. ⌜ (r ≤ capacity (now (mem .entry))) × (take r (view (now (mem .entry))) ≡ take n (view (now (mem .entry)))) ⌝ }
+{
+    let all = record::capacity(mem);
+    if n < all {
+        return n;
+    }
+    all
 }
 
 // Whether all of the first n records are good.
 fn all_good(mem: &[u8], n: usize, m1: u32, t: u32) -> bool
-    requires { ⌜ n ≤ capacity (now mem) ⌝ }
+    requires { ⌜ m1 ≤ 15360 ⌝ }
     ensures { λ b. ⌜ b ≡ every (good m1 t) (take n (view (now (mem .entry)))) ⌝ }
 {
+    let reciprocals = RECIPROCALS;
+    let held = held_count(mem, n);
     let mut i = 0;
-    while i < n {
-        if !is_good(record::load(mem, i), m1, t) {
+    while i < held {
+        if !is_good(record::load(mem, i), m1, t, &reciprocals) {
             return false;
         }
         i += 1;
@@ -149,24 +262,20 @@ fn refuse(n: u32, s: State) -> Answer
 fn does_stay(rule: Stay, r: Rec) -> bool
     ensures { λ b. ⌜ b ≡ stays rule r ⌝ }
 {
-    match rule {
-        Stay::Other(station) => r.station != station,
-        Stay::Live(m1, t) => (t as u64) <= series::last_slot(r, m1),
-    }
+    let other = r.station != rule.station;
+    let live = (rule.slot as u64) <= series::last_slot(r, rule.m1);
+    (rule.any | other) & live
 }
 
-// Moves record i down to place k, if it stays. The next k.
+// Moves record i down to place k, whether it stays or not: a branch around the move would often be guessed wrong. The next k.
 fn sift(mem: &mut [u8], i: usize, k: usize, rule: Stay) -> usize
     requires { ⌜ (k ≤ i) × (i < capacity (now mem)) ⌝ }
     ensures next { λ r. ⌜ r ≡ sieved (stays rule) (view (now (mem .entry))) i (k + 1) k ⌝ }
-    ensures left { λ _. ⌜ view (now (mem .exit)) ≡ moved (stays rule) (view (now (mem .entry))) i k ⌝ }
+    ensures left { λ _. ⌜ view (now (mem .exit)) ≡ set (view (now (mem .entry))) k (getD (view (now (mem .entry))) i blank) ⌝ }
 {
     let r = record::load(mem, i);
+    record::store(mem, k, r);
     if does_stay(rule, r) {
-        if k == i {
-            return k + 1;
-        }
-        record::store(mem, k, r);
         return k + 1;
     }
     k
@@ -174,13 +283,13 @@ fn sift(mem: &mut [u8], i: usize, k: usize, rule: Stay) -> usize
 
 // Moves those of the first n records that stay to the front, in order. How many they are.
 fn compact(mem: &mut [u8], n: usize, rule: Stay) -> usize
-    requires { ⌜ n ≤ capacity (now mem) ⌝ }
     ensures kept { λ r. ⌜ r ≡ length (keep (stays rule) (take n (view (now (mem .entry))))) ⌝ }
     ensures front { λ r. ⌜ take r (view (now (mem .exit))) ≡ keep (stays rule) (take n (view (now (mem .entry)))) ⌝ }
 {
+    let held = held_count(mem, n);
     let mut i = 0;
     let mut k = 0;
-    while i < n {
+    while i < held {
         k = sift(mem, i, k, rule);
         i += 1;
     }
@@ -223,11 +332,11 @@ fn is_same(x: Rec, r: Rec) -> bool
 
 // Whether one of the first n records is the same reservation.
 fn has_same(mem: &[u8], n: usize, x: Rec) -> bool
-    requires { ⌜ n ≤ capacity (now mem) ⌝ }
     ensures { λ b. ⌜ b ≡ has (same x) (take n (view (now (mem .entry)))) ⌝ }
 {
+    let held = held_count(mem, n);
     let mut i = 0;
-    while i < n {
+    while i < held {
         if is_same(x, record::load(mem, i)) {
             return true;
         }
@@ -330,9 +439,10 @@ fn mark_all(mem: &mut [u8], n: usize, station: u32, far: u8) -> usize
     ensures number { λ r. ⌜ r ≡ length (keep (of station) (take n (view (now (mem .entry))))) ⌝ }
     ensures left { λ _. ⌜ view (now (mem .exit)) ≡ mapped (setFar station far) n (view (now (mem .entry))) ⌝ }
 {
+    let held = held_count(mem, n);
     let mut i = 0;
     let mut k = 0;
-    while i < n {
+    while i < held {
         k = mark(mem, i, k, station, far);
         i += 1;
     }
@@ -382,7 +492,13 @@ impl State {
             if 1000000000 < slot {
                 return refuse(13, self);
             }
-            return sweep(self, mem, slot, Stay::Live(self.m1, slot));
+            let live = Stay {
+                any: true,
+                station: 0,
+                m1: self.m1,
+                slot,
+            };
+            return sweep(self, mem, slot, live);
         }
         refuse(11, self)
     }
@@ -445,7 +561,14 @@ impl State {
             if 134217728 <= station {
                 return refuse(8, self);
             }
-            return sweep(self, mem, self.now, Stay::Other(station));
+            // At slot 0 no record is over.
+            let other = Stay {
+                any: false,
+                station,
+                m1: self.m1,
+                slot: 0,
+            };
+            return sweep(self, mem, self.now, other);
         }
         refuse(11, self)
     }
@@ -453,26 +576,14 @@ impl State {
 
 // ---- the slot state
 
-// How many records there are to look at: the count, as far as the memory goes.
-fn held_count(s: State, mem: &[u8]) -> usize
-    ensures { λ n. ⌜ (n ≤ capacity (now (mem .entry))) × (records (channel s (now (mem .entry))) ≡ take n (view (now (mem .entry)))) ⌝ }
-{
-    let n = s.count as usize;
-    let all = record::capacity(mem);
-    if n < all {
-        return n;
-    }
-    all
-}
-
 // The state of any slot by the records held: it neither tests the table nor refuses a slot, and stops at the first near holder.
 pub fn judge(s: State, mem: &[u8], slot: u32) -> Slot
     ensures { λ r. ⌜ r ≡ slotState (s .m1) (records (channel s (now (mem .entry)))) slot ⌝ }
 {
-    let n = held_count(s, mem);
+    let held = held_count(mem, s.count as usize);
     let mut any = false;
     let mut i = 0;
-    while i < n {
+    while i < held {
         let r = record::load(mem, i);
         let holds = series::reserves(r, s.m1, slot);
         let near = r.far != 1;

@@ -20,11 +20,7 @@ cast-n : tie.Need-cast-n
 cast-n c = search needs
 
 has-same-requires : tie.Need-has-same-requires
-has-same-requires c κs =
-    let s = c .before .before .before in
-    let M = channel (s .args .s) (now (s .args .mem)) in
-    let k = held M (s .pre) in
-    k .room
+has-same-requires c κs = search needs
 
 refuse-requires : tie.Need-refuse-requires
 refuse-requires c κs = search needs

@@ -8,34 +8,41 @@ use denote.Ref.{now}
 use lib.ListN.{take}
 use Rattle.octets.specs.Lists.{every}
 use Rattle.record.specs.Record.{view}
+use Rattle.series.specs.Series.{someBelow}
 use Rattle.table.specs.Table.{good}
+use Rattle.table.specs.Steps.{areReciprocals}
 use Rattle.table.proofs.Loops.{toCome, toCome-next, toCome-none}
 use Rattle.table.proofs.all_good.Statement.{statement}
 use Rattle.table.proofs.all_good.Tie as tie
 
 abbrev Inv-loop : tie.InvT-loop
-Inv-loop mem n m1 t i₀ i = every (good m1 t) (take n (view mem)) ≡ every (good m1 t) (toCome i n mem)
+Inv-loop mem n m1 t reciprocals held i₀ i = every (good m1 t) (take n (view mem)) ≡ every (good m1 t) (toCome i held mem)
 
 abbrev μ-loop : tie.MeasureT-loop
-μ-loop mem n m1 t i₀ i = n - i
+μ-loop mem n m1 t reciprocals held i₀ i = held - i
+
+held-count-requires : tie.Need-held-count-requires Inv-loop μ-loop
+held-count-requires c κs = search needs
 
 loop-holds : tie.Need-loop-holds Inv-loop μ-loop
-loop-holds c = refl
+loop-holds c = rw (c .held-count .ensures .1)
 
 load-requires : tie.Need-load-requires Inv-loop μ-loop
 load-requires c κs = search needs
 
 is-good-requires : tie.Need-is-good-requires Inv-loop μ-loop
-is-good-requires c κs = search needs
+unfolding areReciprocals someBelow
+is-good-requires c κs = (search needs, refl)
 
 returns : tie.Need-returns Inv-loop μ-loop
 returns c =
-    let h = c .before .before .before .before in
-    let s = h .before .before in
+    let h = c .before .before .before .before .before in
+    let s = h .before .before .before in
+    let n = h .before .held-count in
     rw (
       h .loop .inv,
-      toCome-next (h .loop .i) (s .args .n) (now (s .args .mem)) (c .before .before .before .loop-test .taken) (s .pre),
-      ← c .before .before .load .ensures,
+      toCome-next (h .loop .i) (n .result) (now (s .args .mem)) (c .before .before .before .before .loop-test .taken) (n .ensures .0),
+      ← c .before .before .before .load .ensures,
       ← c .before .is-good .ensures,
       not-true (c .before .is-good .result) (c .if1 .taken),
     )
@@ -48,12 +55,13 @@ loop-less c = omega arith
 
 loop-again : tie.Need-loop-again Inv-loop μ-loop
 loop-again c =
-    let h = c .before .before .before .before in
-    let s = h .before .before in
+    let h = c .before .before .before .before .before in
+    let s = h .before .before .before in
+    let n = h .before .held-count in
     rw (
       h .loop .inv,
-      toCome-next (h .loop .i) (s .args .n) (now (s .args .mem)) (c .before .before .before .loop-test .taken) (s .pre),
-      ← c .before .before .load .ensures,
+      toCome-next (h .loop .i) (n .result) (now (s .args .mem)) (c .before .before .before .before .loop-test .taken) (n .ensures .0),
+      ← c .before .before .before .load .ensures,
       ← c .before .is-good .ensures,
       not-false (c .before .is-good .result) (c .if1 .left),
     )
@@ -61,8 +69,8 @@ loop-again c =
 returns-2 : tie.Need-returns-2 Inv-loop μ-loop
 returns-2 c =
     let h = c .before in
-    let s = h .before .before in
-    rw (h .loop .inv, toCome-none (h .loop .i) (s .args .n) (now (s .args .mem)) (c .loop-test .left))
+    let s = h .before .before .before in
+    rw (h .loop .inv, toCome-none (h .loop .i) (h .before .held-count .result) (now (s .args .mem)) (c .loop-test .left))
 
 pub all-good-spec : {M : Type 1} → statement M
 all-good-spec =
@@ -70,6 +78,7 @@ all-good-spec =
     (tie.spec
     Inv-loop
     μ-loop
+    held-count-requires
     loop-holds
     load-requires
     is-good-requires

@@ -2,6 +2,7 @@
 use Prim.Native.Nat.{_≤_, _-_}
 use mathlib.Core.Path.{_≡_, refl, _∙_}
 use native.Mathlib.Omega.{arith}
+use borrow.Author.Needs.{needs}
 use denote.Ref.{now}
 use lib.ListN.{length}
 use Rattle.record.specs.Record.{view}
@@ -12,10 +13,13 @@ use Rattle.table.proofs.compact.Statement.{statement}
 use Rattle.table.proofs.compact.Tie as tie
 
 abbrev Inv-loop : tie.InvT-loop
-Inv-loop mem₀ n rule i₀ k₀ mem i k = (i ≤ n) × (length mem ≡ length mem₀) × Sifted (stays rule) (view mem₀) (view mem) i k
+Inv-loop mem₀ n rule held i₀ k₀ mem i k = (i ≤ held) × (length mem ≡ length mem₀) × Sifted (stays rule) (view mem₀) (view mem) i k
 
 abbrev μ-loop : tie.MeasureT-loop
-μ-loop mem₀ n rule i₀ k₀ mem i k = n - i
+μ-loop mem₀ n rule held i₀ k₀ mem i k = held - i
+
+held-count-requires : tie.Need-held-count-requires Inv-loop μ-loop
+held-count-requires c κs = search needs
 
 loop-holds : tie.Need-loop-holds Inv-loop μ-loop
 loop-holds c = (omega arith, refl, (refl, refl, refl))
@@ -23,9 +27,9 @@ loop-holds c = (omega arith, refl, (refl, refl, refl))
 sift-requires : tie.Need-sift-requires Inv-loop μ-loop
 sift-requires c κs =
     let h = c .before .before in
-    let s = h .before .before in
+    let s = h .before .before .before .before in
     let m = now (s .args .mem) in
-    omega (arith, same-capacity (h .loop .mem) m (h .loop .inv .1), kept-le (stays (s .args .rule)) (view m) (h .loop .i))
+    omega (arith, h .before .held-count .ensures .0, same-capacity (h .loop .mem) m (h .loop .inv .1), kept-le (stays (s .args .rule)) (view m) (h .loop .i))
 
 add-i : tie.Need-add-i Inv-loop μ-loop
 add-i c = omega arith
@@ -36,13 +40,13 @@ loop-less c = omega arith
 loop-again : tie.Need-loop-again Inv-loop μ-loop
 loop-again c =
     let h = c .before .before .before .before .before in
-    let s = h .before .before in
+    let s = h .before .before .before .before in
     let m = now (s .args .mem) in
     let sift = c .before .before .sift in (
       omega arith,
       sift .kept .0 ∙ h .loop .inv .1,
       rw (sift .ensures .0, sift .ensures .1)
-          (sifted-next (stays (s .args .rule)) (view m) (view (h .loop .mem)) (h .loop .i) (h .loop .k) (omega (arith, length-view m)) (h .loop .inv .2)),
+          (sifted-next (stays (s .args .rule)) (view m) (view (h .loop .mem)) (h .loop .i) (h .loop .k) (omega (arith, h .before .held-count .ensures .0, length-view m)) (h .loop .inv .2)),
     )
 
 same-length : tie.Need-same-length Inv-loop μ-loop
@@ -51,8 +55,9 @@ same-length c = c .before .loop .inv .1
 returns : tie.Need-returns Inv-loop μ-loop
 returns c =
     let h = c .before in
-    let e : h .before .before .args .n ≡ h .loop .i = omega arith in
-    rw e (h .loop .inv .2 .0, h .loop .inv .2 .1)
+    let n = h .before .held-count in
+    let e : n .result ≡ h .loop .i = omega arith in
+    rw (← n .ensures .1, e) (h .loop .inv .2 .0, h .loop .inv .2 .1)
 
 pub compact-spec : {M : Type 1} → statement M
 compact-spec =
@@ -60,6 +65,7 @@ compact-spec =
     (tie.spec
     Inv-loop
     μ-loop
+    held-count-requires
     loop-holds
     sift-requires
     add-i

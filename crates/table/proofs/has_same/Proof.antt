@@ -1,6 +1,6 @@
 -- `table::has_same` meets its contract: the records still to come say the same as the whole. Assumes nothing.
 use Prim.Native.Nat.{_-_}
-use mathlib.Core.Path.{_≡_, refl}
+use mathlib.Core.Path.{_≡_}
 use native.Mathlib.Omega.{arith}
 use borrow.Author.Needs.{needs}
 use denote.Ref.{now}
@@ -13,13 +13,16 @@ use Rattle.table.proofs.has_same.Statement.{statement}
 use Rattle.table.proofs.has_same.Tie as tie
 
 abbrev Inv-loop : tie.InvT-loop
-Inv-loop mem n x i₀ i = has (same x) (take n (view mem)) ≡ has (same x) (toCome i n mem)
+Inv-loop mem n x held i₀ i = has (same x) (take n (view mem)) ≡ has (same x) (toCome i held mem)
 
 abbrev μ-loop : tie.MeasureT-loop
-μ-loop mem n x i₀ i = n - i
+μ-loop mem n x held i₀ i = held - i
+
+held-count-requires : tie.Need-held-count-requires Inv-loop μ-loop
+held-count-requires c κs = search needs
 
 loop-holds : tie.Need-loop-holds Inv-loop μ-loop
-loop-holds c = refl
+loop-holds c = rw (c .held-count .ensures .1)
 
 load-requires : tie.Need-load-requires Inv-loop μ-loop
 load-requires c κs = search needs
@@ -30,10 +33,11 @@ is-same-requires c κs = search needs
 returns : tie.Need-returns Inv-loop μ-loop
 returns c =
     let h = c .before .before .before .before in
-    let s = h .before .before in
+    let s = h .before .before .before in
+    let n = h .before .held-count in
     rw (
       h .loop .inv,
-      toCome-next (h .loop .i) (s .args .n) (now (s .args .mem)) (c .before .before .before .loop-test .taken) (s .pre),
+      toCome-next (h .loop .i) (n .result) (now (s .args .mem)) (c .before .before .before .loop-test .taken) (n .ensures .0),
       ← c .before .before .load .ensures,
       ← c .before .is-same .ensures,
       c .if1 .taken,
@@ -48,10 +52,11 @@ loop-less c = omega arith
 loop-again : tie.Need-loop-again Inv-loop μ-loop
 loop-again c =
     let h = c .before .before .before .before in
-    let s = h .before .before in
+    let s = h .before .before .before in
+    let n = h .before .held-count in
     rw (
       h .loop .inv,
-      toCome-next (h .loop .i) (s .args .n) (now (s .args .mem)) (c .before .before .before .loop-test .taken) (s .pre),
+      toCome-next (h .loop .i) (n .result) (now (s .args .mem)) (c .before .before .before .loop-test .taken) (n .ensures .0),
       ← c .before .before .load .ensures,
       ← c .before .is-same .ensures,
       c .if1 .left,
@@ -60,8 +65,8 @@ loop-again c =
 returns-2 : tie.Need-returns-2 Inv-loop μ-loop
 returns-2 c =
     let h = c .before in
-    let s = h .before .before in
-    rw (h .loop .inv, toCome-none (h .loop .i) (s .args .n) (now (s .args .mem)) (c .loop-test .left))
+    let s = h .before .before .before in
+    rw (h .loop .inv, toCome-none (h .loop .i) (h .before .held-count .result) (now (s .args .mem)) (c .loop-test .left))
 
 pub has-same-spec : {M : Type 1} → statement M
 has-same-spec =
@@ -69,6 +74,7 @@ has-same-spec =
     (tie.spec
     Inv-loop
     μ-loop
+    held-count-requires
     loop-holds
     load-requires
     is-same-requires

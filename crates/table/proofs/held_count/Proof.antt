@@ -6,27 +6,21 @@ use lib.Seq.{take-all}
 use borrow.Author.Needs.{needs}
 use Rattle.record.specs.Record.{capacity, view}
 use Rattle.record.proofs.Views.{length-view}
-use Rattle.table.specs.Memory.{records}
 use Rattle.table.proofs.held_count.Statement.{statement}
 use Rattle.table.proofs.held_count.Tie as tie
-
-cast-n : tie.Need-cast-n
-cast-n c = search needs
 
 capacity-requires : tie.Need-capacity-requires
 capacity-requires c κs = search needs
 
 returns : tie.Need-returns
-unfolding records
 returns c = (omega arith, refl)
 
 returns-2 : tie.Need-returns-2
-unfolding records
 returns-2 c =
-    let a = c .before .before .before .before .args in
+    let a = c .before .before .before .args in
     let m = now (a .mem) in
     let l = length-view m in
-    (omega arith, rw (c .before .capacity .ensures, take-all (a .s .count) (view m) (omega (arith, l)), take-all (capacity m) (view m) (omega (arith, l))))
+    (omega arith, rw (c .before .capacity .ensures, take-all (a .n) (view m) (omega (arith, l)), take-all (capacity m) (view m) (omega (arith, l))))
 
 pub held-count-spec : {M : Type 1} → statement M
-held-count-spec = tie.close (tie.spec cast-n capacity-requires returns returns-2)
+held-count-spec = tie.close (tie.spec capacity-requires returns returns-2)

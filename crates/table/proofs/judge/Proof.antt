@@ -14,17 +14,20 @@ use Rattle.table.proofs.judge.Statement.{statement}
 use Rattle.table.proofs.judge.Tie as tie
 
 abbrev Inv-loop : tie.InvT-loop
-Inv-loop s mem slot n any₀ i₀ any i =
-    slotState (s .m1) (records (channel s mem)) slot ≡ judged any (keep (λ r. reserves (s .m1) r slot) (toCome i n mem))
+Inv-loop s mem slot held any₀ i₀ any i =
+    slotState (s .m1) (records (channel s mem)) slot ≡ judged any (keep (λ r. reserves (s .m1) r slot) (toCome i held mem))
 
 abbrev μ-loop : tie.MeasureT-loop
-μ-loop s mem slot n any₀ i₀ any i = n - i
+μ-loop s mem slot held any₀ i₀ any i = held - i
+
+cast-held-count : tie.Need-cast-held-count Inv-loop μ-loop
+cast-held-count c = search needs
 
 held-count-requires : tie.Need-held-count-requires Inv-loop μ-loop
 held-count-requires c κs = search needs
 
 loop-holds : tie.Need-loop-holds Inv-loop μ-loop
-unfolding slotState
+unfolding slotState records
 loop-holds c = rw (c .held-count .ensures .1) (judged-start _)
 
 load-requires : tie.Need-load-requires Inv-loop μ-loop
@@ -36,7 +39,7 @@ reserves-requires c κs = search needs
 returns : tie.Need-returns Inv-loop μ-loop
 returns c =
     let h = c .before .before .before .before .before in
-    let a = h .before .before .before .args in
+    let a = h .before .before .before .before .args in
     let n = h .before .held-count in
     let load = c .before .before .before .load in
     let near = judged-near (λ r. reserves (a .s .m1) r (a .slot)) (h .loop .any) (load .result) (toCome (h .loop .i + 1) (n .result) (now (a .mem))) in
@@ -52,7 +55,7 @@ loop-less c = omega arith
 loop-again : tie.Need-loop-again Inv-loop μ-loop
 loop-again c =
     let h = c .before .before .before .before .before in
-    let a = h .before .before .before .args in
+    let a = h .before .before .before .before .args in
     let n = h .before .held-count in
     let load = c .before .before .before .load in
     let holds = c .before .before .reserves .ensures in
@@ -63,13 +66,13 @@ loop-again c =
 returns-2 : tie.Need-returns-2 Inv-loop μ-loop
 returns-2 c =
     let h = c .before .before in
-    let none = toCome-none (h .loop .i) (h .before .held-count .result) (now (h .before .before .before .args .mem)) (c .before .loop-test .left) in
+    let none = toCome-none (h .loop .i) (h .before .held-count .result) (now (h .before .before .before .before .args .mem)) (c .before .loop-test .left) in
     sym (h .loop .inv ∙ rw (none, judged-end, c .if2 .taken))
 
 returns-3 : tie.Need-returns-3 Inv-loop μ-loop
 returns-3 c =
     let h = c .before .before in
-    let none = toCome-none (h .loop .i) (h .before .held-count .result) (now (h .before .before .before .args .mem)) (c .before .loop-test .left) in
+    let none = toCome-none (h .loop .i) (h .before .held-count .result) (now (h .before .before .before .before .args .mem)) (c .before .loop-test .left) in
     sym (h .loop .inv ∙ rw (none, judged-end, c .if2 .left))
 
 pub judge-spec : {M : Type 1} → statement M
@@ -78,6 +81,7 @@ judge-spec =
     (tie.spec
     Inv-loop
     μ-loop
+    cast-held-count
     held-count-requires
     loop-holds
     load-requires

@@ -1,9 +1,10 @@
 -- `table::mark_all` meets its contract: as far as the loop has come the records are changed and counted. Assumes nothing.
 use Prim.Native.Nat.{_≤_, _<_, _-_}
-use mathlib.Core.Path.{_≡_, refl, _∙_}
+use mathlib.Core.Path.{_≡_, refl, ap, _∙_}
 use native.Mathlib.Omega.{arith}
+use borrow.Author.Needs.{needs}
 use denote.Ref.{now}
-use lib.ListN.{length, take}
+use lib.ListN.{length, take, length-take}
 use Rattle.octets.specs.Lists.{keep}
 use Rattle.record.specs.Record.{view}
 use Rattle.record.proofs.Views.{length-view, same-capacity}
@@ -14,11 +15,14 @@ use Rattle.table.proofs.mark_all.Statement.{statement}
 use Rattle.table.proofs.mark_all.Tie as tie
 
 abbrev Inv-loop : tie.InvT-loop
-Inv-loop mem₀ n station far i₀ k₀ mem i k =
-    (i ≤ n) × (length mem ≡ length mem₀) × (k ≡ length (keep (of station) (take i (view mem₀)))) × (view mem ≡ mapped (setFar station far) i (view mem₀))
+Inv-loop mem₀ n station far held i₀ k₀ mem i k =
+    (i ≤ held) × (length mem ≡ length mem₀) × (k ≡ length (keep (of station) (take i (view mem₀)))) × (view mem ≡ mapped (setFar station far) i (view mem₀))
 
 abbrev μ-loop : tie.MeasureT-loop
-μ-loop mem₀ n station far i₀ k₀ mem i k = n - i
+μ-loop mem₀ n station far held i₀ k₀ mem i k = held - i
+
+held-count-requires : tie.Need-held-count-requires Inv-loop μ-loop
+held-count-requires c κs = search needs
 
 loop-holds : tie.Need-loop-holds Inv-loop μ-loop
 unfolding mapped
@@ -27,9 +31,9 @@ loop-holds c = (omega arith, refl, refl, refl)
 mark-requires : tie.Need-mark-requires Inv-loop μ-loop
 mark-requires c κs =
     let h = c .before .before in
-    let s = h .before .before in
+    let s = h .before .before .before .before in
     let m = now (s .args .mem) in
-    omega (arith, same-capacity (h .loop .mem) m (h .loop .inv .1), kept-le (of (s .args .station)) (view m) (h .loop .i))
+    omega (arith, h .before .held-count .ensures .0, same-capacity (h .loop .mem) m (h .loop .inv .1), kept-le (of (s .args .station)) (view m) (h .loop .i))
 
 add-i : tie.Need-add-i Inv-loop μ-loop
 add-i c = omega arith
@@ -40,13 +44,13 @@ loop-less c = omega arith
 loop-again : tie.Need-loop-again Inv-loop μ-loop
 loop-again c =
     let h = c .before .before .before .before .before in
-    let s = h .before .before in
+    let s = h .before .before .before .before in
     let m = now (s .args .mem) in
     let vs = view m in
     let f = setFar (s .args .station) (s .args .far) in
     let w = view (h .loop .mem) in
     let i = h .loop .i in
-    let l : i < length vs = omega (arith, length-view m) in
+    let l : i < length vs = omega (arith, h .before .held-count .ensures .0, length-view m) in
     let mark = c .before .before .mark in (
       omega arith,
       mark .kept .0 ∙ h .loop .inv .1,
@@ -60,7 +64,10 @@ same-length c = c .before .loop .inv .1
 returns : tie.Need-returns Inv-loop μ-loop
 returns c =
     let h = c .before in
-    let e : h .before .before .args .n ≡ h .loop .i = omega arith in
+    let s = h .before .before .before .before in
+    let n = h .before .held-count in
+    let e : s .args .n ≡ h .loop .i =
+    omega (arith, n .ensures .0, ap length (n .ensures .1), length-view (now (s .args .mem)), length-take (n .result) (view (now (s .args .mem))), length-take (s .args .n) (view (now (s .args .mem)))) in
     rw e (h .loop .inv .2, h .loop .inv .3)
 
 pub mark-all-spec : {M : Type 1} → statement M
@@ -69,6 +76,7 @@ mark-all-spec =
     (tie.spec
     Inv-loop
     μ-loop
+    held-count-requires
     loop-holds
     mark-requires
     add-i

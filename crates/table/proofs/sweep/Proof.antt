@@ -17,11 +17,7 @@ cast-n : tie.Need-cast-n
 cast-n c = search needs
 
 compact-requires : tie.Need-compact-requires
-compact-requires c κs =
-    let s = c .before .before .before in
-    let M = channel (s .args .s) (now (s .args .mem)) in
-    let k = held M (s .pre) in
-    k .room
+compact-requires c κs = search needs
 
 clear-requires : tie.Need-clear-requires
 clear-requires c κs = search needs

@@ -1,14 +1,18 @@
 -- `table::State::wipe` meets its contract: what it is refused for, and else what a sweep leaves. Assumes nothing.
+use Prim.Native.Nat.{zero-le}
 use native.Mathlib.Omega.{arith}
-use mathlib.Core.Path.{_≡_, refl, sym, _∙_}
-use mathlib.Core.Bool.{true, false}
+use mathlib.Core.Path.{_≡_, refl, ap, sym, _∙_, fun-ext}
+use mathlib.Core.Bool.{Bool, true, false}
 use denote.Ref.{now}
-use mathlib.Core.Bool.{not, Bool·not-not}
+use mathlib.Core.Bool.{not, _&&_, and-true, Bool·not-not}
 use borrow.Author.Tests.{le-leb, lt-leb}
+use Rattle.octets.specs.Lists.{keep}
+use Rattle.record.specs.Record.{capacity}
 use Rattle.record.specs.declared.Rec.{Rec}
-use Rattle.table.specs.Table.{wipe, of}
-use Rattle.table.specs.Memory.{channel, sound, refusal, read}
-use Rattle.table.specs.Steps.{stays}
+use Rattle.series.specs.Series.{lastSlot}
+use Rattle.table.specs.Table.{wipe, of, lasts}
+use Rattle.table.specs.Memory.{channel, records, sound, refusal, read, packed}
+use Rattle.table.specs.Steps.{stays, swept}
 use Rattle.table.proofs.Memory.{held}
 use Rattle.table.proofs.Calls.{refusal-unsound, refusal-sound, refused-gives, sweep-gives}
 use borrow.Author.Needs.{needs}
@@ -43,14 +47,19 @@ same-length-2 : tie.Need-same-length-2
 same-length-2 c = search needs
 
 returns-2 : tie.Need-returns-2
-unfolding read stays
+unfolding read stays lasts
 returns-2 c =
     let s = c .before .before .before .before .before .before .before .before .before .args in
     let M = channel (s .self) (now (s .mem)) in
     let h : sound M ≡ true = sym (c .before .before .before .before .before .before .is-sound .ensures) ∙ c .before .before .before .before .before .if1 .taken in
     let z : 0 ≡ refusal M (wipe (s .station)) = sym (refusal-sound M (wipe (s .station)) h ∙ rw (lt-leb _ _ (c .before .before .before .before .if2 .left))) in
-    let g = sweep-gives M (held M h) (wipe (s .station)) z refl (M .now) (λ (r : Rec). not (of (s .station) r)) (of (s .station)) (λ (r : Rec). sym (Bool·not-not (of (s .station) r))) refl refl in
-    (c .before .before .sweep .ensures .0 ∙ g .0, c .before .before .sweep .ensures .1 ∙ g .1)
+    let other : Rec → Bool = λ r. not (of (s .station) r) in
+    let at-zero : Rec → Bool = λ r. other r && lasts (M .m1) 0 r in
+    let e : at-zero ≡ other = fun-ext (λ r. rw (le-leb 0 (lastSlot (M .m1) r) zero-le) (and-true (other r))) in
+    let g = sweep-gives M (held M h) (wipe (s .station)) z refl (M .now) other (of (s .station)) (λ (r : Rec). sym (Bool·not-not (of (s .station) r))) refl refl in (
+      c .before .before .sweep .ensures .0 ∙ ap (swept M (M .now)) e ∙ g .0,
+      c .before .before .sweep .ensures .1 ∙ ap (λ (p : Rec → Bool). packed (capacity (M .memory)) (keep p (records M))) e ∙ g .1,
+    )
 
 refuse-requires-2 : tie.Need-refuse-requires-2
 refuse-requires-2 c κs = search needs

@@ -1,0 +1,40 @@
+-- `table::spacing` meets its contract: the product with the reciprocal, over 2^31, is the quotient. Assumes nothing.
+use native.Mathlib.Nat.{div-le-self}
+use native.Mathlib.Omega.{arith}
+use denote.Ref.{now}
+use borrow.Author.Needs.{needs}
+use Rattle.table.proofs.Reciprocals.{reciprocal-most, product-most, product-over}
+use Rattle.table.proofs.spacing.Statement.{statement}
+use Rattle.table.proofs.spacing.Tie as tie
+
+mul-x : tie.Need-mul-x
+mul-x c = search needs
+
+element-copy-out-x : tie.Need-element-copy-out-x
+element-copy-out-x c = search needs
+
+cast-result : tie.Need-cast-result
+cast-result c =
+    let s = c .before in
+    omega (arith, reciprocal-most (now (s .args .reciprocals)) (s .pre .3) (s .args .rate) (s .pre .1) (s .pre .2))
+
+mul-result : tie.Need-mul-result
+mul-result c =
+    let s = c .before in
+    omega (arith, product-most (now (s .args .reciprocals)) (s .pre .3) (s .args .rate) (s .pre .1) (s .pre .2) (s .args .m1) (s .pre .0))
+
+cast-result-2 : tie.Need-cast-result-2
+cast-result-2 c =
+    let s = c .before in
+    rw (product-over (now (s .args .reciprocals)) (s .pre .3) (s .args .rate) (s .pre .1) (s .pre .2) (s .args .m1) (s .pre .0))
+    (omega (arith, div-le-self (s .args .m1) (s .args .rate)))
+
+returns : tie.Need-returns
+returns c =
+    let s = c .before in
+    let e = product-over (now (s .args .reciprocals)) (s .pre .3) (s .args .rate) (s .pre .1) (s .pre .2) (s .args .m1) (s .pre .0) in
+    (e, rw e (omega (arith, div-le-self (s .args .m1) (s .args .rate))))
+
+pub spacing-spec : {M : Type 1} → statement M
+spacing-spec =
+    tie.close (tie.spec mul-x element-copy-out-x cast-result mul-result cast-result-2 returns)
