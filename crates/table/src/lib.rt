@@ -60,100 +60,6 @@ struct Stay {
 
 // ---- soundness
 
-// At each rate from 1 to 60, 2^31 over the rate, rounded up: a product with it stands for a division by the rate.
-const RECIPROCALS: [u32; 61] = [
-    0,
-    2147483648,
-    1073741824,
-    715827883,
-    536870912,
-    429496730,
-    357913942,
-    306783379,
-    268435456,
-    238609295,
-    214748365,
-    195225787,
-    178956971,
-    165191050,
-    153391690,
-    143165577,
-    134217728,
-    126322568,
-    119304648,
-    113025456,
-    107374183,
-    102261127,
-    97612894,
-    93368855,
-    89478486,
-    85899346,
-    82595525,
-    79536432,
-    76695845,
-    74051161,
-    71582789,
-    69273667,
-    67108864,
-    65075263,
-    63161284,
-    61356676,
-    59652324,
-    58040099,
-    56512728,
-    55063684,
-    53687092,
-    52377650,
-    51130564,
-    49941481,
-    48806447,
-    47721859,
-    46684428,
-    45691142,
-    44739243,
-    43826197,
-    42949673,
-    42107523,
-    41297763,
-    40518560,
-    39768216,
-    39045158,
-    38347923,
-    37675152,
-    37025581,
-    36398028,
-    35791395,
-];
-
-// m1 over a rate, the remainder dropped.
-fn spacing(m1: u32, rate: u32, reciprocals: &[u32; 61]) -> u32
-    requires { ⌜ (m1 ≤ 15360) × (1 ≤ rate) × (rate ≤ 60) × (areReciprocals (now reciprocals) ≡ true) ⌝ }
-    ensures { λ r. ⌜ (r ≡ m1 / rate) × (r ≤ 15360) ⌝ }
-{
-    let i = rate as usize;
-    let x = reciprocals[i];
-    ((m1 as u64) * (x as u64) / 2147483648) as u32
-}
-
-// A product that stays small.
-fn times(n: u32, m: u32) -> u32
-    requires { ⌜ (n ≤ 59) × (m ≤ 15360) ⌝ }
-    ensures { λ r. ⌜ (r ≡ n * m) × (r ≤ 906240) ⌝ }
-{
-    n * m
-}
-
-// As series::last_slot, for a record in range: 32 bits are enough, and nothing is divided.
-fn last_slot(r: Rec, m1: u32, reciprocals: &[u32; 61]) -> u32
-    requires { ⌜ (inRange r ≡ true) × (m1 ≤ 15360) × (areReciprocals (now reciprocals) ≡ true) ⌝ }
-    ensures { λ s. ⌜ s ≡ lastSlot m1 r ⌝ }
-{
-    let rate = r.rate as u32;
-    let superframes = times(r.superframes as u32 - 1, m1);
-    let blocks = times(rate - 1, spacing(m1, rate, reciprocals));
-    r.first + superframes + blocks + r.length as u32 - 1
-}
-
 fn in_range(lo: u32, hi: u32, x: u32) -> bool
     ensures { λ b. ⌜ b ≡ within lo hi x ⌝ }
 {
@@ -613,4 +519,100 @@ pub fn slot_state(s: State, mem: &[u8], slot: u32) -> Slot
         return judge(s, mem, slot);
     }
     Slot::Refused(11)
+}
+
+// ---- a last slot without a division
+
+// At each rate from 1 to 60, 2^31 over the rate, rounded up: a product with it stands for a division by the rate.
+const RECIPROCALS: [u32; 61] = [
+    0,
+    2147483648,
+    1073741824,
+    715827883,
+    536870912,
+    429496730,
+    357913942,
+    306783379,
+    268435456,
+    238609295,
+    214748365,
+    195225787,
+    178956971,
+    165191050,
+    153391690,
+    143165577,
+    134217728,
+    126322568,
+    119304648,
+    113025456,
+    107374183,
+    102261127,
+    97612894,
+    93368855,
+    89478486,
+    85899346,
+    82595525,
+    79536432,
+    76695845,
+    74051161,
+    71582789,
+    69273667,
+    67108864,
+    65075263,
+    63161284,
+    61356676,
+    59652324,
+    58040099,
+    56512728,
+    55063684,
+    53687092,
+    52377650,
+    51130564,
+    49941481,
+    48806447,
+    47721859,
+    46684428,
+    45691142,
+    44739243,
+    43826197,
+    42949673,
+    42107523,
+    41297763,
+    40518560,
+    39768216,
+    39045158,
+    38347923,
+    37675152,
+    37025581,
+    36398028,
+    35791395,
+];
+
+// m1 over a rate, the remainder dropped.
+fn spacing(m1: u32, rate: u32, reciprocals: &[u32; 61]) -> u32
+    requires { ⌜ (m1 ≤ 15360) × (1 ≤ rate) × (rate ≤ 60) × (areReciprocals (now reciprocals) ≡ true) ⌝ }
+    ensures { λ r. ⌜ (r ≡ m1 / rate) × (r ≤ 15360) ⌝ }
+{
+    let i = rate as usize;
+    let x = reciprocals[i];
+    ((m1 as u64) * (x as u64) / 2147483648) as u32
+}
+
+// A product that stays small.
+fn times(n: u32, m: u32) -> u32
+    requires { ⌜ (n ≤ 59) × (m ≤ 15360) ⌝ }
+    ensures { λ r. ⌜ (r ≡ n * m) × (r ≤ 906240) ⌝ }
+{
+    n * m
+}
+
+// As series::last_slot, for a record in range: 32 bits are enough, and nothing is divided.
+fn last_slot(r: Rec, m1: u32, reciprocals: &[u32; 61]) -> u32
+    requires { ⌜ (inRange r ≡ true) × (m1 ≤ 15360) × (areReciprocals (now reciprocals) ≡ true) ⌝ }
+    ensures { λ s. ⌜ s ≡ lastSlot m1 r ⌝ }
+{
+    let rate = r.rate as u32;
+    let superframes = times(r.superframes as u32 - 1, m1);
+    let blocks = times(rate - 1, spacing(m1, rate, reciprocals));
+    r.first + superframes + blocks + r.length as u32 - 1
 }
