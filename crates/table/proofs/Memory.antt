@@ -4,7 +4,7 @@ use native.Mathlib.Omega.{arith}
 use mathlib.Core.Path.{_≡_, ap, _∙_, sym}
 use mathlib.Core.Bool.{Bool, true, _&&_, and-eq-true-iff}
 use mathlib.Core.List.{List, [], _∷_, _++_, map}
-use lib.Dec.{leb, eqb}
+use lib.Dec.{eqb}
 use lib.ListN.{length, take, drop, replicate, length-append, length-replicate, length-map, length-drop, replicate-append-replicate}
 use lib.Seq.{drop-at, drop-drop, length-take-le}
 use borrow.Author.Tests.{leb-true}
@@ -20,7 +20,7 @@ use Rattle.record.specs.declared.Rec.{Rec}
 use Rattle.record.proofs.Views.{whole-length, length-view, same-capacity, image-view, image-append, image-take, image-drop}
 use Rattle.record.proofs.Places.{put-end}
 use Rattle.table.specs.Table.{good}
-use Rattle.table.specs.Memory.{Channel, records, sizeFits, numbersFit, sound, packed}
+use Rattle.table.specs.Memory.{Channel, records, numbersFit, sound, packed}
 use Rattle.table.specs.Steps.{mapped}
 
 -- ---- a sound table
@@ -45,40 +45,41 @@ count-records : (m : Channel) → m .count ≤ capacity (m .memory) → length (
 unfolding records
 count-records m h = length-take-le (m .count) (view (m .memory)) (rw length-view h)
 
-fits-room : (m : Channel) → numbersFit m ≡ true → m .count ≤ capacity (m .memory)
+-- the size and the numbers beside the records, part by part
+numbers-fit : (m : Channel) → numbersFit m ≡ true
+    → (whole (m .memory) ≡ true) × (within 1 2048 (capacity (m .memory)) ≡ true) × (Parameters.fits 1 (m .m1) ≡ true)
+    × (m .now ≤ 1_000_000_000) × (m .count ≤ capacity (m .memory))
 unfolding numbersFit
-fits-room m h =
-    leb-true (m .count) (capacity (m .memory)) (and-eq-true-iff (sizeFits (m .memory) && Parameters.fits 1 (m .m1) && leb (m .now) 1_000_000_000) (leb (m .count) (capacity (m .memory))) .0 h .1)
+numbers-fit m h =
+    let p = simp and-eq-true-iff at h in (
+      p .0 .0 .0 .0,
+      p .0 .0 .0 .1,
+      p .0 .0 .1,
+      leb-true (m .now) 1_000_000_000 (p .0 .1),
+      leb-true (m .count) (capacity (m .memory)) (p .1),
+    )
 
-pub fits-m1 : (m : Channel) → numbersFit m ≡ true → m .m1 ≤ 15360
-unfolding numbersFit Parameters.fits
-fits-m1 m h =
-    let b = m .memory in
-    let f = and-eq-true-iff (sizeFits b && Parameters.fits 1 (m .m1) && leb (m .now) 1_000_000_000) (leb (m .count) (capacity b)) .0 h in
-    let t = and-eq-true-iff (sizeFits b && Parameters.fits 1 (m .m1)) (leb (m .now) 1_000_000_000) .0 (f .0) in
-    let d = and-eq-true-iff (sizeFits b) (Parameters.fits 1 (m .m1)) .0 (t .0) in
-    let r = and-eq-true-iff (within 60 15360 (m .m1)) (eqb ((m .m1 - 60) % 60) 0) .0 (d .1) in
-    within-true 60 15360 (m .m1) (r .0) .1
+pub m1-most : (m : Channel) → numbersFit m ≡ true → m .m1 ≤ 15360
+unfolding Parameters.fits
+m1-most m h =
+    let p = and-eq-true-iff (within 60 15360 (m .m1)) (eqb ((m .m1 - 60) % 60) 0) .0 (numbers-fit m h .2) in
+    within-true 60 15360 (m .m1) (p .0) .1
 
 pub held : (m : Channel) → sound m ≡ true → Held m
-unfolding sound numbersFit
+unfolding sound
 held m h =
     let b = m .memory in
     let s = and-eq-true-iff (numbersFit m && every (good (m .m1) (m .now)) (records m)) (zeros (rest (m .count) b)) .0 h in
     let g = and-eq-true-iff (numbersFit m) (every (good (m .m1) (m .now)) (records m)) .0 (s .0) in
-    let f = and-eq-true-iff (sizeFits b && Parameters.fits 1 (m .m1) && leb (m .now) 1_000_000_000) (leb (m .count) (capacity b)) .0 (g .0) in
-    let t = and-eq-true-iff (sizeFits b && Parameters.fits 1 (m .m1)) (leb (m .now) 1_000_000_000) .0 (f .0) in
-    let d = and-eq-true-iff (sizeFits b) (Parameters.fits 1 (m .m1)) .0 (t .0) in
-    let c = and-eq-true-iff (whole b) (within 1 2048 (capacity b)) .0 (d .0) in
-    let w = whole-length b (c .0) in
-    let r = fits-room m (g .0) in
+    let n = numbers-fit m (g .0) in
+    let w = whole-length b (n .0) in
     record {
-      capacity-fits = c .1;
-      capacity-most = within-true 1 2048 (capacity b) (c .1) .1;
-      m1-fits = d .1;
-      now-most = leb-true (m .now) 1_000_000_000 (t .1);
-      room = r;
-      counted = count-records m r;
+      capacity-fits = n .1;
+      capacity-most = within-true 1 2048 (capacity b) (n .1) .1;
+      m1-fits = n .2;
+      now-most = n .3;
+      room = n .4;
+      counted = count-records m (n .4);
       all-good = g .1;
       whole-records = w;
       tail = rw (length-drop, tail-length (length b) (capacity b) (m .count) w) at (zeros-true (rest (m .count) b) (s .1));

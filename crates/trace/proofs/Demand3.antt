@@ -2,10 +2,10 @@
 use Prim.Native.Nat.{ℕ, _^_}
 use native.Mathlib.Omega.{arith}
 use mathlib.Core.Path.{_≡_, refl, sym, ap, _∙_}
-use mathlib.Core.Bool.{true, and-eq-true-iff}
+use mathlib.Core.Bool.{true}
 use mathlib.Core.List.{List, [], _∷_}
 use lib.Dec.{leb}
-use borrow.Author.Tests.{ltb-true, leb-true, ne-eqb}
+use borrow.Author.Tests.{leb-true, ne-eqb}
 use Rattle.octets.specs.Lists.{every}
 use Rattle.octets.specs.Refusals.{answer}
 use Rattle.octets.proofs.Lists.{keep-every, every-sub}
@@ -15,6 +15,7 @@ use Rattle.table.specs.declared.State.{State}
 use Rattle.table.specs.declared.Answer.{Answer}
 use Rattle.table.specs.Table.{Table, Said, Call, clock, reserve, distance, wipe, look, inRange, changed, reported, withRecords}
 use Rattle.table.specs.Memory.{Channel, channel, stateOf, sound, read, write, refusal, acts, leaves, says, returned, openRefusal, opened, openLeaves, openReturned}
+use Rattle.table.proofs.Ranges.{ranges}
 use Rattle.table.proofs.Calls.{refusal-sound, refused-leaves}
 use Rattle.trace.specs.Sequences.{runs, logs, is, without, roomy, saidBy, Made, none, made}
 use Rattle.trace.specs.Claims.{WipedWithoutTrace, RealCalls, SoundOpened, SoundKept, NeverUnsound, RefusedChangesNothing, OneResult}
@@ -26,10 +27,7 @@ use Rattle.trace.proofs.Simulation.{stays, left, run-left, log-left}
 
 -- a sound table has no record of a station of 2 ^ 27 or more, whose wipe is refused
 none-beyond : (A : ℕ) → leb (2 ^ 27) A ≡ true → (r : Rec) → inRange r ≡ true → stays (is A) r ≡ true
-unfolding inRange
-none-beyond A e r h =
-    let p = simp and-eq-true-iff at h in
-    rw (ne-eqb (r .station) A (omega (arith, ltb-true, leb-true (2 ^ 27) A e)))
+none-beyond A e r h = rw (ne-eqb (r .station) A (omega (arith, ranges r h .station, leb-true (2 ^ 27) A e)))
 
 left-beyond : (t : Table) (A : ℕ) → Sound t → leb (2 ^ 27) A ≡ true → left (is A) t ≡ t
 left-beyond t A k e =

@@ -8,17 +8,18 @@ use mathlib.Core.List.{List, [], _∷_}
 use lib.Dec.{lit<}
 use lib.ListN.{length as len, take, replicate, length-append, length-replicate}
 use lib.Seq.{drop-at}
-use borrow.Author.Tests.{ltb-true, leb-true, le-leb, not-false}
+use borrow.Author.Tests.{le-leb, not-false}
 use Rattle.octets.specs.Lists.{every}
 use Rattle.octets.specs.Refusals.{within}
 use Rattle.octets.proofs.Zeros.{zeros-replicate}
-use Rattle.octets.proofs.Refusals.{firstOf-zero, answer-map, within-true}
+use Rattle.octets.proofs.Refusals.{firstOf-zero, answer-map}
 use Rattle.codec.specs.Parameters as Parameters
 use Rattle.record.specs.Record.{size, capacity, fields, image, whole, rest, view, FitRec, AllFit}
 use Rattle.record.specs.declared.Rec.{Rec}
 use Rattle.record.proofs.Views.{whole-length, length-image, view-front}
 use Rattle.table.specs.Table.{Table, Call, clock, reserve, distance, wipe, look, inRange, changed}
 use Rattle.table.specs.Memory.{Channel, records, numbersFit, sound, read, packed, write, refusal, acts, leaves, says, sizeFits, openRefusal, opened}
+use Rattle.table.proofs.Ranges.{ranges}
 use Rattle.table.proofs.Memory.{held}
 use Rattle.table.proofs.Calls.{refusal-sound}
 use Rattle.trace.specs.Sequences.{runs, logs}
@@ -27,13 +28,10 @@ use Rattle.trace.proofs.Kept.{refusalOn, after, after-look, told, run, 
 -- ---- records read back
 
 fit : (r : Rec) → inRange r ≡ true → FitRec r
-unfolding inRange fields
+unfolding fields
 fit r h =
-    let p = simp and-eq-true-iff at h in
-    let rate = within-true 1 60 (r .rate) (p .0 .0 .0 .1) in
-    let superframes = within-true 1 3 (r .superframes) (p .0 .0 .1) in
-    let length = within-true 1 32 (r .length) (p .0 .1) in
-    omega (arith, ltb-true, leb-true)
+    let k = ranges r h in
+    omega (arith, k .station, k .first, k .rate, k .superframes, k .length, k .far)
 
 all-fit : (rs : List Rec) → every inRange rs ≡ true → AllFit rs
 all-fit [] h = tt

@@ -5,7 +5,7 @@ use denote.Ref.{now}
 use Rattle.octets.specs.Lists.{every}
 use Rattle.table.specs.Table.{good}
 use Rattle.table.specs.Memory.{channel, records, numbersFit, sound}
-use Rattle.table.proofs.Memory.{fits-m1}
+use Rattle.table.proofs.Memory.{m1-most}
 use borrow.Author.Needs.{needs}
 use Rattle.table.proofs.is_sound.Statement.{statement}
 use Rattle.table.proofs.is_sound.Tie as tie
@@ -19,7 +19,7 @@ cast-n c = search needs
 all-good-requires : tie.Need-all-good-requires
 all-good-requires c κs =
     let s = c .before .before .before .before in
-    fits-m1 (channel (s .args .s) (now (s .args .mem))) (sym (c .before .before .numbers-fit .ensures) ∙ c .before .if1 .taken)
+    m1-most (channel (s .args .s) (now (s .args .mem))) (sym (c .before .before .numbers-fit .ensures) ∙ c .before .if1 .taken)
 
 is-clear-requires : tie.Need-is-clear-requires
 is-clear-requires c κs = search needs
