@@ -21,9 +21,11 @@ pub record Channel : Type 0 where
   pub count : ℕ
   pub memory : List ℕ
 
+-- the channel of a state and the octets lent with it
 abbrev pub channel : State → List ℕ → Channel
 channel s b = record { m1 = s .m1; now = s .now; count = s .count; memory = b }
 
+-- its state
 abbrev pub stateOf : Channel → State
 stateOf m = record { m1 = m .m1; now = m .now; count = m .count }
 
@@ -103,5 +105,6 @@ opened m1 b = record { m1 = m1; now = 0; count = 0; memory = replicate (len b) 0
 unfoldable pub openLeaves : ℕ → List ℕ → Channel
 openLeaves m1 b = answer (openRefusal m1 b) (opened m1 b) (λ _. record { m1 = 0; now = 0; count = 0; memory = b })
 
+-- what open returns: the refusal, and the state handed back
 unfoldable pub openReturned : ℕ → List ℕ → Answer
 openReturned m1 b = record { refusal = openRefusal m1 b; number = 0; state = stateOf (openLeaves m1 b) }

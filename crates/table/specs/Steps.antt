@@ -48,10 +48,11 @@ swept m t p =
       state = record { m1 = m .m1; now = t; count = len (keep p (records m)) };
     }
 
--- the answer where a record is to be added, and the memory then
+-- the answer where a record is to be added
 unfoldable pub added : Channel → Rec → Answer
 added m x =
     answer (firstOf (placeTests (read m) x)) (record { refusal = 0; number = 0; state = record { m1 = m .m1; now = m .now; count = m .count + 1 } }) (λ n. refused n (stateOf m))
 
+-- and the memory then
 unfoldable pub addedMemory : Channel → Rec → List ℕ
 addedMemory m x = answer (firstOf (placeTests (read m) x)) (packed (capacity (m .memory)) (records m ++ (x ∷ []))) (λ _. m .memory)

@@ -43,10 +43,11 @@ RealCalls =
 
 -- ---- soundness
 
--- an accepted opening leaves a sound table, and every call leaves a sound table sound
+-- an accepted opening leaves a sound table
 abbrev pub SoundOpened : Type 0
 SoundOpened = (m1 : ℕ) (b : List ℕ) → openRefusal m1 b ≡ 0 → sound (opened m1 b) ≡ true
 
+-- every call leaves a sound table sound
 abbrev pub SoundKept : Type 0
 SoundKept = (m : Channel) (c : Call) → sound m ≡ true → sound (leaves m c) ≡ true
 
@@ -89,6 +90,7 @@ opened1 = opened 4500 (replicate 12 0)
 abbrev pub tableT : Channel
 tableT = runs opened1 (clock 100 ∷ reserve (requestT 1) ∷ [])
 
+-- what it holds, P6 and P7
 pub record MarkedCases : Type 0 where
   pub alone : records tableT ≡ recordT ∷ []
   -- P6: slots 104 and 110 free, 105 and 109 taken

@@ -30,13 +30,15 @@ names set (distance s d limit) = set s
 names set (wipe s) = set s
 names set (look f) = false
 
--- the set of A alone, and the set of the others
+-- the set of A alone
 abbrev pub is : ℕ → ℕ → Bool
 is A s = eqb s A
 
+-- the set of the others
 abbrev pub others : (ℕ → Bool) → ℕ → Bool
 others set s = not (set s)
 
+-- a reserve
 abbrev pub isReserve : Call → Bool
 isReserve (clock slot) = false
 isReserve (reserve q) = true
@@ -58,11 +60,13 @@ roomy gone e = not (isReserve (e .0) && names (others gone) (e .0) && eqb (e .1 
 
 -- ---- the same of real calls
 
+-- the answer in what a function returns
 abbrev pub saidBy : Answer → Said
 saidBy r = record { refusal = r .refusal; number = r .number }
 
 -- `Made s b cs t d es`: the calls cs, made on the state s and the octets b, ended at t and d with the answers es.
 -- The first two premises of `made` are what the functions promise, word for word: their result and the memory at exit.
+-- (A slot state or a search is lent memory that it cannot change, and returns no state: here it hands back the one it was given.)
 pub data Made : State → List ℕ → List Call → State → List ℕ → List (Call × Said) → Type 0 where
   none : {s : State} {b : List ℕ} → Made s b [] s b []
   made : {s t : State} {b x d : List ℕ} {c : Call} {cs : List Call} {r : Answer} {es : List (Call × Said)}
