@@ -266,13 +266,14 @@ fn add(s: State, mem: &mut [u8], x: Rec) -> Answer
         return refuse(17, s);
     }
     record::store(mem, n, x);
+    let count = s.count + 1;
     Answer {
         refusal: 0,
         number: 0,
         state: State {
             m1: s.m1,
             now: s.now,
-            count: s.count + 1,
+            count,
         },
     }
 }

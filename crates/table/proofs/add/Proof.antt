@@ -58,8 +58,8 @@ returns-2 c =
 store-requires : tie.Need-store-requires
 store-requires c κs = search needs
 
-add-t15 : tie.Need-add-t15
-add-t15 c =
+add-count : tie.Need-add-count
+add-count c =
     let s = c .before .before .before .before .before .before .before .before .before .before .before .before .before in
     let M = channel (s .args .s) (now (s .args .mem)) in
     let k = held M (s .pre) in
@@ -96,6 +96,6 @@ add-spec =
     same-length-2
     returns-2
     store-requires
-    add-t15
+    add-count
     same-length-3
     returns-3)
