@@ -48,10 +48,12 @@ same-length-2 c = search needs
 returns-2 : tie.Need-returns-2
 unfolding added addedMemory read records
 returns-2 c =
-    let s = c .before .before .before .before .before .before .before .before .before in
+    let at-if1 = c .before .before .before .before in
+    let at-has-same = at-if1 .before in
+    let s = at-has-same .before .before .before .before in
     let M = channel (s .args .s) (now (s .args .mem)) in
     let k = held M (s .pre) in
-    let f : has (same (s .args .x)) (records M) ≡ false = sym (c .before .before .before .before .before .has-same .ensures) ∙ c .before .before .before .before .if1 .left in
+    let f : has (same (s .args .x)) (records M) ≡ false = sym (at-has-same .has-same .ensures) ∙ at-if1 .if1 .left in
     let full = eq-eqb _ _ (c .before .if2 .taken ∙ c .before .before .capacity .ensures) in
     (c .refuse2 .ensures ∙ answer-refused _ _ (rw (f, k .counted, full)) (omega arith), answer-refused _ _ {n = 17} (rw (f, k .counted, full)) (omega arith))
 
@@ -71,15 +73,20 @@ same-length-3 c = search needs
 returns-3 : tie.Need-returns-3
 unfolding added addedMemory read records
 returns-3 c =
-    let s = c .before .before .before .before .before .before .before .before .before .before .before .before .before in
+    let at-if2 = c .before .before .before .before .before in
+    let at-capacity = at-if2 .before in
+    let at-if1 = at-capacity .before .before in
+    let at-has-same = at-if1 .before in
+    let at-slice = at-has-same .before .before .before in
+    let s = at-slice .before in
     let M = channel (s .args .s) (now (s .args .mem)) in
     let k = held M (s .pre) in
-    let f : has (same (s .args .x)) (records M) ≡ false = sym (c .before .before .before .before .before .before .before .before .before .has-same .ensures) ∙ c .before .before .before .before .before .before .before .before .if1 .left in
-    let other : M .count ≡ capacity (now (s .args .mem)) → ⊥ = λ e. c .before .before .before .before .before .if2 .left (e ∙ sym (c .before .before .before .before .before .before .capacity .ensures)) in
+    let f : has (same (s .args .x)) (records M) ≡ false = sym (at-has-same .has-same .ensures) ∙ at-if1 .if1 .left in
+    let other : M .count ≡ capacity (now (s .args .mem)) → ⊥ = λ e. at-if2 .if2 .left (e ∙ sym (at-capacity .capacity .ensures)) in
     let room : M .count < capacity (now (s .args .mem)) = omega (arith, k .room, other) in
     let free = ne-eqb (M .count) (capacity (now (s .args .mem))) other in (
       answer-accepted _ _ (rw (f, k .counted, free)),
-      c .before .before .before .store .ensures .0 ∙ packed-end M (s .args .x) k (λ i. c .before .before .before .before .before .before .before .before .before .before .before .before .slice-known .given i .fits) room ∙ answer-accepted _ _ (rw (f, k .counted, free)),
+      c .before .before .before .store .ensures .0 ∙ packed-end M (s .args .x) k (λ i. at-slice .slice-known .given i .fits) room ∙ answer-accepted _ _ (rw (f, k .counted, free)),
     )
 
 pub add-spec : {M : Type 1} → statement M

@@ -27,18 +27,21 @@ is-clear-requires c κs = search needs
 returns : tie.Need-returns
 unfolding sound records
 returns c =
-    let s = c .before .before .before .before .before .before .before .args in
+    let at-if1 = c .before .before .before .before in
+    let at-numbers-fit = at-if1 .before in
+    let s = at-numbers-fit .before .before .args in
     let M = channel (s .s) (now (s .mem)) in
-    let f : numbersFit M ≡ true = sym (c .before .before .before .before .before .numbers-fit .ensures) ∙ c .before .before .before .before .if1 .taken in
+    let f : numbersFit M ≡ true = sym (at-numbers-fit .numbers-fit .ensures) ∙ at-if1 .if1 .taken in
     let g : every (good (M .m1) (M .now)) (records M) ≡ true = sym (c .before .before .all-good .ensures) ∙ c .before .if2 .taken in
     rw (f, g, c .is-clear .ensures)
 
 returns-2 : tie.Need-returns-2
 unfolding sound records
 returns-2 c =
-    let s = c .before .before .before .before .before .before .args in
+    let at-numbers-fit = c .before .before .before .before in
+    let s = at-numbers-fit .before .before .args in
     let M = channel (s .s) (now (s .mem)) in
-    let f : numbersFit M ≡ true = sym (c .before .before .before .before .numbers-fit .ensures) ∙ c .before .before .before .if1 .taken in
+    let f : numbersFit M ≡ true = sym (at-numbers-fit .numbers-fit .ensures) ∙ c .before .before .before .if1 .taken in
     let g : every (good (M .m1) (M .now)) (records M) ≡ false = sym (c .before .all-good .ensures) ∙ c .if2 .left in
     rw (f, g)
 

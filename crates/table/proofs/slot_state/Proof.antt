@@ -24,8 +24,9 @@ returns c =
 returns-2 : tie.Need-returns-2
 unfolding slotAnswer read
 returns-2 c =
-    let s = c .before .before .before .before .before .before .args in
-    let h : sound (channel (s .s) (now (s .mem))) ≡ true = sym (c .before .before .before .before .is-sound .ensures) ∙ c .before .before .before .if1 .taken in
+    let at-is-sound = c .before .before .before .before in
+    let s = at-is-sound .before .before .args in
+    let h : sound (channel (s .s) (now (s .mem))) ≡ true = sym (at-is-sound .is-sound .ensures) ∙ c .before .before .before .if1 .taken in
     answer-refused _ _ (rw (h, le-ltb _ _ (c .before .if2 .left), lt-ltb _ _ (c .if3 .taken))) (omega arith)
 
 judge-requires : tie.Need-judge-requires
@@ -34,8 +35,10 @@ judge-requires c κs = search needs
 returns-3 : tie.Need-returns-3
 unfolding slotAnswer read
 returns-3 c =
-    let s = c .before .before .before .before .before .before .before .args in
-    let h : sound (channel (s .s) (now (s .mem))) ≡ true = sym (c .before .before .before .before .before .is-sound .ensures) ∙ c .before .before .before .before .if1 .taken in
+    let at-if1 = c .before .before .before .before in
+    let at-is-sound = at-if1 .before in
+    let s = at-is-sound .before .before .args in
+    let h : sound (channel (s .s) (now (s .mem))) ≡ true = sym (at-is-sound .is-sound .ensures) ∙ at-if1 .if1 .taken in
     c .judge .ensures ∙ answer-accepted _ _ (rw (h, le-ltb _ _ (c .before .before .if2 .left), le-ltb _ _ (c .before .if3 .left)))
 
 returns-4 : tie.Need-returns-4

@@ -25,10 +25,11 @@ clear-requires c κs = search needs
 sub-t12 : tie.Need-sub-t12
 unfolding records
 sub-t12 c =
-    let s = c .before .before .before .before .before .before .before .before .before .before in
+    let at-compact = c .before .before .before .before .before .before in
+    let s = at-compact .before .before .before .before in
     let M = channel (s .args .s) (now (s .args .mem)) in
     let k = held M (s .pre) in
-    let kept : c .before .before .before .before .before .before .compact .result ≡ length (keep (stays (s .args .rule)) (records M)) = c .before .before .before .before .before .before .compact .ensures .0 in
+    let kept : at-compact .compact .result ≡ length (keep (stays (s .args .rule)) (records M)) = at-compact .compact .ensures .0 in
     omega (arith, length-kept M k (stays (s .args .rule)))
 
 cast-t13 : tie.Need-cast-t13
@@ -37,10 +38,11 @@ cast-t13 c = search needs
 cast-t14 : tie.Need-cast-t14
 unfolding records
 cast-t14 c =
-    let s = c .before .before .before .before .before .before .before .before .before .before in
+    let at-compact = c .before .before .before .before .before .before in
+    let s = at-compact .before .before .before .before in
     let M = channel (s .args .s) (now (s .args .mem)) in
     let k = held M (s .pre) in
-    let kept : c .before .before .before .before .before .before .compact .result ≡ length (keep (stays (s .args .rule)) (records M)) = c .before .before .before .before .before .before .compact .ensures .0 in
+    let kept : at-compact .compact .result ≡ length (keep (stays (s .args .rule)) (records M)) = at-compact .compact .ensures .0 in
     omega (arith, length-kept M k (stays (s .args .rule)), k .room, k .capacity-most)
 
 same-length : tie.Need-same-length
@@ -49,14 +51,16 @@ same-length c = search needs
 returns : tie.Need-returns
 unfolding records
 returns c =
-    let s = c .before .before .before .before .before .before .before .before .before .before in
+    let at-slice = c .before .before .before .before in
+    let at-compact = at-slice .before .before in
+    let s = at-compact .before .before .before .before in
     let M = channel (s .args .s) (now (s .args .mem)) in
     let k = held M (s .pre) in
-    let kept : c .before .before .before .before .before .before .compact .result ≡ length (keep (stays (s .args .rule)) (records M)) = c .before .before .before .before .before .before .compact .ensures .0 in
+    let kept : at-compact .compact .result ≡ length (keep (stays (s .args .rule)) (records M)) = at-compact .compact .ensures .0 in
     let room : length (keep (stays (s .args .rule)) (records M)) ≤ capacity (now (s .args .mem)) = omega (arith, length-kept M k (stays (s .args .rule)), k .room) in (
       rw kept,
       c .before .before .clear .ensures
-          ∙ rw kept (packed-front (now (s .args .mem)) (c .before .before .before .before .before .before .compact .last .0) (keep (stays (s .args .rule)) (records M)) (λ i. c .before .before .before .before .slice-known2 .given i .fits) (k .whole-records) (c .before .before .before .before .before .before .compact .kept .0) room (rw kept at (c .before .before .before .before .before .before .compact .ensures .1))),
+          ∙ rw kept (packed-front (now (s .args .mem)) (at-compact .compact .last .0) (keep (stays (s .args .rule)) (records M)) (λ i. at-slice .slice-known2 .given i .fits) (k .whole-records) (at-compact .compact .kept .0) room (rw kept at (at-compact .compact .ensures .1))),
     )
 
 pub sweep-spec : {M : Type 1} → statement M

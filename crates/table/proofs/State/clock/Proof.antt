@@ -27,9 +27,10 @@ same-length c = search needs
 returns : tie.Need-returns
 unfolding read
 returns c =
-    let s = c .before .before .before .before .before .before .before .args in
+    let at-is-sound = c .before .before .before .before in
+    let s = at-is-sound .before .before .before .args in
     let M = channel (s .self) (now (s .mem)) in
-    let h : sound M ≡ true = sym (c .before .before .before .before .is-sound .ensures) ∙ c .before .before .before .if1 .taken in
+    let h : sound M ≡ true = sym (at-is-sound .is-sound .ensures) ∙ c .before .before .before .if1 .taken in
     let g = refused-gives M (clock (s .slot)) 12 (sym (refusal-sound M (clock (s .slot)) h ∙ rw (lt-ltb _ _ (c .before .if2 .taken)))) (omega arith) in
     (c .refuse .ensures ∙ g .0, g .1)
 
@@ -42,17 +43,21 @@ same-length-2 c = search needs
 returns-2 : tie.Need-returns-2
 unfolding read
 returns-2 c =
-    let s = c .before .before .before .before .before .before .before .before .args in
+    let at-if1 = c .before .before .before .before in
+    let at-is-sound = at-if1 .before in
+    let s = at-is-sound .before .before .before .args in
     let M = channel (s .self) (now (s .mem)) in
-    let h : sound M ≡ true = sym (c .before .before .before .before .before .is-sound .ensures) ∙ c .before .before .before .before .if1 .taken in
+    let h : sound M ≡ true = sym (at-is-sound .is-sound .ensures) ∙ at-if1 .if1 .taken in
     let g = refused-gives M (clock (s .slot)) 13 (sym (refusal-sound M (clock (s .slot)) h ∙ rw (le-ltb _ _ (c .before .before .if2 .left), lt-ltb _ _ (c .before .if3 .taken)))) (omega arith) in
     (c .refuse2 .ensures ∙ g .0, g .1)
 
 sweep-requires : tie.Need-sweep-requires
 sweep-requires c κs =
-    let s = c .before .before .before .before .before .before .before .before .args in
+    let at-if1 = c .before .before .before .before in
+    let at-is-sound = at-if1 .before in
+    let s = at-is-sound .before .before .before .args in
     let M = channel (s .self) (now (s .mem)) in
-    let h : sound M ≡ true = sym (c .before .before .before .before .before .is-sound .ensures) ∙ c .before .before .before .before .if1 .taken in
+    let h : sound M ≡ true = sym (at-is-sound .is-sound .ensures) ∙ at-if1 .if1 .taken in
     h
 
 same-length-3 : tie.Need-same-length-3
@@ -61,10 +66,14 @@ same-length-3 c = search needs
 returns-3 : tie.Need-returns-3
 unfolding read stays
 returns-3 c =
-    let s = c .before .before .before .before .before .before .before .before .before .before .before .args in
+    let at-if3 = c .before .before .before .before in
+    let at-if2 = at-if3 .before in
+    let at-if1 = at-if2 .before .before in
+    let at-is-sound = at-if1 .before in
+    let s = at-is-sound .before .before .before .args in
     let M = channel (s .self) (now (s .mem)) in
-    let h : sound M ≡ true = sym (c .before .before .before .before .before .before .before .before .is-sound .ensures) ∙ c .before .before .before .before .before .before .before .if1 .taken in
-    let z : 0 ≡ refusal M (clock (s .slot)) = sym (refusal-sound M (clock (s .slot)) h ∙ rw (le-ltb _ _ (c .before .before .before .before .before .if2 .left), le-ltb _ _ (c .before .before .before .before .if3 .left))) in
+    let h : sound M ≡ true = sym (at-is-sound .is-sound .ensures) ∙ at-if1 .if1 .taken in
+    let z : 0 ≡ refusal M (clock (s .slot)) = sym (refusal-sound M (clock (s .slot)) h ∙ rw (le-ltb _ _ (at-if2 .if2 .left), le-ltb _ _ (at-if3 .if3 .left))) in
     let live = lasts (M .m1) (s .slot) in
     let g = sweep-gives M (held M h) (clock (s .slot)) z refl (s .slot) live (λ (r : Rec). not (live r)) (λ r. refl) refl refl in
     (c .before .before .sweep .ensures .0 ∙ g .0, c .before .before .sweep .ensures .1 ∙ g .1)

@@ -42,17 +42,21 @@ cast-n c = search needs
 
 mark-all-requires : tie.Need-mark-all-requires
 mark-all-requires c κs =
-    let s = c .before .before .before .before .before .before .before .before .before .before .args in
+    let at-if1 = c .before .before .before .before .before .before in
+    let at-is-sound = at-if1 .before in
+    let s = at-is-sound .before .before .before .args in
     let M = channel (s .self) (now (s .mem)) in
-    let h : sound M ≡ true = sym (c .before .before .before .before .before .before .before .is-sound .ensures) ∙ c .before .before .before .before .before .before .if1 .taken in
+    let h : sound M ≡ true = sym (at-is-sound .is-sound .ensures) ∙ at-if1 .if1 .taken in
     held M h .room
 
 cast-t16 : tie.Need-cast-t16
 unfolding records
 cast-t16 c =
-    let s = c .before .before .before .before .before .before .before .before .before .before .before .before .before .args in
+    let at-if1 = c .before .before .before .before .before .before .before .before .before in
+    let at-is-sound = at-if1 .before in
+    let s = at-is-sound .before .before .before .args in
     let M = channel (s .self) (now (s .mem)) in
-    let h : sound M ≡ true = sym (c .before .before .before .before .before .before .before .before .before .before .is-sound .ensures) ∙ c .before .before .before .before .before .before .before .before .before .if1 .taken in
+    let h : sound M ≡ true = sym (at-is-sound .is-sound .ensures) ∙ at-if1 .if1 .taken in
     omega (arith, c .before .before .mark-all .ensures .0, length-kept M (held M h) (of (s .station)), held M h .room, held M h .capacity-most)
 
 same-length-2 : tie.Need-same-length-2
@@ -61,16 +65,23 @@ same-length-2 c = search needs
 returns-2 : tie.Need-returns-2
 unfolding read write records
 returns-2 c =
-    let s = c .before .before .before .before .before .before .before .before .before .before .before .before .before .args in
+    let at-far-bit = c .before .before .before .before .before in
+    let at-if3 = at-far-bit .before in
+    let at-limit-fits = at-if3 .before in
+    let at-if2 = at-limit-fits .before in
+    let at-if1 = at-if2 .before in
+    let at-is-sound = at-if1 .before in
+    let at-slice = at-is-sound .before .before in
+    let s = at-slice .before .args in
     let M = channel (s .self) (now (s .mem)) in
-    let h : sound M ≡ true = sym (c .before .before .before .before .before .before .before .before .before .before .is-sound .ensures) ∙ c .before .before .before .before .before .before .before .before .before .if1 .taken in
+    let h : sound M ≡ true = sym (at-is-sound .is-sound .ensures) ∙ at-if1 .if1 .taken in
     let k = held M h in
-    let fit : limitFits (s .limit) ≡ true = sym (c .before .before .before .before .before .before .before .limit-fits .ensures) ∙ c .before .before .before .before .before .before .if3 .taken in
-    let z : 0 ≡ refusal M (distance (s .station) (s .d) (s .limit)) = sym (refusal-sound M (distance (s .station) (s .d) (s .limit)) h ∙ rw (lt-leb _ _ (c .before .before .before .before .before .before .before .before .if2 .left), fit)) in
+    let fit : limitFits (s .limit) ≡ true = sym (at-limit-fits .limit-fits .ensures) ∙ at-if3 .if3 .taken in
+    let z : 0 ≡ refusal M (distance (s .station) (s .d) (s .limit)) = sym (refusal-sound M (distance (s .station) (s .d) (s .limit)) h ∙ rw (lt-leb _ _ (at-if2 .if2 .left), fit)) in
     let g = accepted-gives M (distance (s .station) (s .d) (s .limit)) z refl in
     let e = c .before .before .mark-all .ensures in
-    let w = packed-mapped M (setFar (s .station) (c .before .before .before .before .before .far-bit .result)) (c .before .before .mark-all .last .0) k (λ i. c .before .before .before .before .before .before .before .before .before .before .before .before .slice-known .given i .fits) (λ i. c .slice-known2 .given i .fits) (c .before .before .mark-all .kept .0) (e .1) in
-    (rw (e .0, ← g .0, length-map, k .counted), w ∙ rw (c .before .before .before .before .before .far-bit .ensures) (g .1))
+    let w = packed-mapped M (setFar (s .station) (at-far-bit .far-bit .result)) (c .before .before .mark-all .last .0) k (λ i. at-slice .slice-known .given i .fits) (λ i. c .slice-known2 .given i .fits) (c .before .before .mark-all .kept .0) (e .1) in
+    (rw (e .0, ← g .0, length-map, k .counted), w ∙ rw (at-far-bit .far-bit .ensures) (g .1))
 
 refuse-requires-2 : tie.Need-refuse-requires-2
 refuse-requires-2 c κs = search needs
@@ -80,9 +91,11 @@ same-length-3 c = search needs
 
 returns-3 : tie.Need-returns-3
 returns-3 c =
-    let s = c .before .before .before .before .before .before .before .before .args in
+    let at-if1 = c .before .before .before .before in
+    let at-is-sound = at-if1 .before in
+    let s = at-is-sound .before .before .before .args in
     let M = channel (s .self) (now (s .mem)) in
-    let h : sound M ≡ true = sym (c .before .before .before .before .before .is-sound .ensures) ∙ c .before .before .before .before .if1 .taken in
+    let h : sound M ≡ true = sym (at-is-sound .is-sound .ensures) ∙ at-if1 .if1 .taken in
     let fit : limitFits (s .limit) ≡ false = sym (c .before .before .limit-fits .ensures) ∙ c .before .if3 .left in
     let g = refused-gives M (distance (s .station) (s .d) (s .limit)) 18 (sym (refusal-sound M (distance (s .station) (s .d) (s .limit)) h ∙ rw (lt-leb _ _ (c .before .before .before .if2 .left), fit))) (omega arith) in
     (c .refuse2 .ensures ∙ g .0, g .1)

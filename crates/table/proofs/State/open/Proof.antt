@@ -29,9 +29,14 @@ same-length c = search needs
 returns : tie.Need-returns
 unfolding openRefusal openLeaves openReturned answer
 returns c =
-    let m = now (c .before .before .before .before .before .before .before .before .before .before .args .mem) in
-    let f : Parameters.fits 1 (c .before .before .before .before .before .before .before .before .before .before .args .m1) ≡ true = sym (c .before .before .before .before .before .before .before .before .m1-fits .ensures) ∙ c .before .before .before .before .before .before .before .if1 .taken in
-    let z : sizeFits m ≡ true = sym (c .before .before .before .before .before .size-fits .ensures) ∙ c .before .before .before .before .if2 .taken in
+    let at-if2 = c .before .before .before .before in
+    let at-size-fits = at-if2 .before in
+    let at-if1 = at-size-fits .before .before in
+    let at-m1-fits = at-if1 .before in
+    let start = at-m1-fits .before .before in
+    let m = now (start .args .mem) in
+    let f : Parameters.fits 1 (start .args .m1) ≡ true = sym (at-m1-fits .m1-fits .ensures) ∙ at-if1 .if1 .taken in
+    let z : sizeFits m ≡ true = sym (at-size-fits .size-fits .ensures) ∙ at-if2 .if2 .taken in
     let l : length m - 0 ≡ length m = omega arith in
     (rw (f, z), c .before .before .clear .ensures ∙ rw (f, z, zero-mul size, l))
 
@@ -44,8 +49,11 @@ same-length-2 c = search needs
 returns-2 : tie.Need-returns-2
 unfolding openRefusal openLeaves openReturned answer
 returns-2 c =
-    let f : Parameters.fits 1 (c .before .before .before .before .before .before .before .args .m1) ≡ true = sym (c .before .before .before .before .before .m1-fits .ensures) ∙ c .before .before .before .before .if1 .taken in
-    let z : sizeFits (now (c .before .before .before .before .before .before .before .args .mem)) ≡ false = sym (c .before .before .size-fits .ensures) ∙ c .before .if2 .left in
+    let at-if1 = c .before .before .before .before in
+    let at-m1-fits = at-if1 .before in
+    let start = at-m1-fits .before .before in
+    let f : Parameters.fits 1 (start .args .m1) ≡ true = sym (at-m1-fits .m1-fits .ensures) ∙ at-if1 .if1 .taken in
+    let z : sizeFits (now (start .args .mem)) ≡ false = sym (c .before .before .size-fits .ensures) ∙ c .before .if2 .left in
     (c .refuse .ensures ∙ rw (f, z), rw (f, z))
 
 refuse-requires-2 : tie.Need-refuse-requires-2
@@ -54,7 +62,8 @@ refuse-requires-2 c κs = search needs
 returns-3 : tie.Need-returns-3
 unfolding openRefusal openLeaves openReturned answer
 returns-3 c =
-    let f : Parameters.fits 1 (c .before .before .before .before .args .m1) ≡ false = sym (c .before .before .m1-fits .ensures) ∙ c .before .if1 .left in
+    let start = c .before .before .before .before in
+    let f : Parameters.fits 1 (start .args .m1) ≡ false = sym (c .before .before .m1-fits .ensures) ∙ c .before .if1 .left in
     (c .refuse2 .ensures ∙ rw f, rw f)
 
 pub open-spec : {M : Type 1} → statement M

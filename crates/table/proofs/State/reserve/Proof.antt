@@ -23,39 +23,50 @@ far-bit-requires c κs = search needs
 
 add-t12 : tie.Need-add-t12
 add-t12 c =
-    let s = c .before .before .before .before .before .before .before .before .before .args in
+    let at-judge-request = c .before .before .before .before in
+    let at-if1 = at-judge-request .before in
+    let at-is-sound = at-if1 .before in
+    let s = at-is-sound .before .before .before .args in
     let M = channel (s .self) (now (s .mem)) in
-    let h : sound M ≡ true = sym (c .before .before .before .before .before .before .is-sound .ensures) ∙ c .before .before .before .before .before .if1 .taken in
+    let h : sound M ≡ true = sym (at-is-sound .is-sound .ensures) ∙ at-if1 .if1 .taken in
     let q = s .q in
-    let z : firstOf (requestTests q) ≡ 0 = sym (c .before .before .before .before .judge-request .ensures) ∙ c .before .before .before .if2 .taken in
+    let z : firstOf (requestTests q) ≡ 0 = sym (at-judge-request .judge-request .ensures) ∙ c .before .before .before .if2 .taken in
     omega (arith, request-passed q z .bs-most, held M h .now-most)
 
 cast-t13 : tie.Need-cast-t13
 cast-t13 c =
-    let s = c .before .before .before .before .before .before .before .before .before .before .args in
+    let at-if2 = c .before .before .before .before in
+    let at-judge-request = at-if2 .before in
+    let s = at-judge-request .before .before .before .before .before .args in
     let q = s .q in
-    let z : firstOf (requestTests q) ≡ 0 = sym (c .before .before .before .before .before .judge-request .ensures) ∙ c .before .before .before .before .if2 .taken in
+    let z : firstOf (requestTests q) ≡ 0 = sym (at-judge-request .judge-request .ensures) ∙ at-if2 .if2 .taken in
     omega (arith, request-passed q z .rate-most)
 
 cast-t14 : tie.Need-cast-t14
 cast-t14 c =
-    let s = c .before .before .before .before .before .before .before .before .before .before .before .args in
+    let at-if2 = c .before .before .before .before .before in
+    let at-judge-request = at-if2 .before in
+    let s = at-judge-request .before .before .before .before .before .args in
     let q = s .q in
-    let z : firstOf (requestTests q) ≡ 0 = sym (c .before .before .before .before .before .before .judge-request .ensures) ∙ c .before .before .before .before .before .if2 .taken in
+    let z : firstOf (requestTests q) ≡ 0 = sym (at-judge-request .judge-request .ensures) ∙ at-if2 .if2 .taken in
     omega (arith, request-passed q z .superframes-most)
 
 cast-t15 : tie.Need-cast-t15
 cast-t15 c =
-    let s = c .before .before .before .before .before .before .before .before .before .before .before .before .args in
+    let at-if2 = c .before .before .before .before .before .before in
+    let at-judge-request = at-if2 .before in
+    let s = at-judge-request .before .before .before .before .before .args in
     let q = s .q in
-    let z : firstOf (requestTests q) ≡ 0 = sym (c .before .before .before .before .before .before .before .judge-request .ensures) ∙ c .before .before .before .before .before .before .if2 .taken in
+    let z : firstOf (requestTests q) ≡ 0 = sym (at-judge-request .judge-request .ensures) ∙ at-if2 .if2 .taken in
     omega (arith, request-passed q z .length-most)
 
 add-requires : tie.Need-add-requires
 add-requires c κs =
-    let s = c .before .before .before .before .before .before .before .before .before .before .before .before .before .args in
+    let at-if1 = c .before .before .before .before .before .before .before .before .before in
+    let at-is-sound = at-if1 .before in
+    let s = at-is-sound .before .before .before .args in
     let M = channel (s .self) (now (s .mem)) in
-    let h : sound M ≡ true = sym (c .before .before .before .before .before .before .before .before .before .before .is-sound .ensures) ∙ c .before .before .before .before .before .before .before .before .before .if1 .taken in
+    let h : sound M ≡ true = sym (at-is-sound .is-sound .ensures) ∙ at-if1 .if1 .taken in
     h
 
 same-length : tie.Need-same-length
@@ -63,12 +74,17 @@ same-length c = search needs
 
 returns : tie.Need-returns
 returns c =
-    let s = c .before .before .before .before .before .before .before .before .before .before .before .before .before .before .before .before .args in
+    let at-far-bit = c .before .before .before .before .before .before .before .before .before in
+    let at-if2 = at-far-bit .before in
+    let at-judge-request = at-if2 .before in
+    let at-if1 = at-judge-request .before in
+    let at-is-sound = at-if1 .before in
+    let s = at-is-sound .before .before .before .args in
     let M = channel (s .self) (now (s .mem)) in
-    let h : sound M ≡ true = sym (c .before .before .before .before .before .before .before .before .before .before .before .before .before .is-sound .ensures) ∙ c .before .before .before .before .before .before .before .before .before .before .before .before .if1 .taken in
+    let h : sound M ≡ true = sym (at-is-sound .is-sound .ensures) ∙ at-if1 .if1 .taken in
     let q = s .q in
-    let z : firstOf (requestTests q) ≡ 0 = sym (c .before .before .before .before .before .before .before .before .before .before .before .judge-request .ensures) ∙ c .before .before .before .before .before .before .before .before .before .before .if2 .taken in
-    let far = c .before .before .before .before .before .before .before .before .before .far-bit .ensures in
+    let z : firstOf (requestTests q) ≡ 0 = sym (at-judge-request .judge-request .ensures) ∙ at-if2 .if2 .taken in
+    let far = at-far-bit .far-bit .ensures in
     let g = request-added M q h z in
     (c .before .before .add .ensures .0 ∙ rw far (g .0), c .before .before .add .ensures .1 ∙ rw far (g .1))
 
@@ -80,9 +96,10 @@ same-length-2 c = search needs
 
 returns-2 : tie.Need-returns-2
 returns-2 c =
-    let s = c .before .before .before .before .before .before .before .args in
+    let at-is-sound = c .before .before .before .before in
+    let s = at-is-sound .before .before .before .args in
     let M = channel (s .self) (now (s .mem)) in
-    let h : sound M ≡ true = sym (c .before .before .before .before .is-sound .ensures) ∙ c .before .before .before .if1 .taken in
+    let h : sound M ≡ true = sym (at-is-sound .is-sound .ensures) ∙ c .before .before .before .if1 .taken in
     let e = c .before .before .judge-request .ensures in
     let z : firstOf (requestTests (s .q)) ≡ 0 → ⊥ = λ w. c .before .if2 .left (e ∙ w) in
     let g = refused-gives M (reserve (s .q)) (firstOf (requestTests (s .q))) (request-refused M (s .q) h z) z in

@@ -49,10 +49,13 @@ same-length-2 c = search needs
 returns-2 : tie.Need-returns-2
 unfolding read stays lasts
 returns-2 c =
-    let s = c .before .before .before .before .before .before .before .before .before .args in
+    let at-if2 = c .before .before .before .before in
+    let at-if1 = at-if2 .before in
+    let at-is-sound = at-if1 .before in
+    let s = at-is-sound .before .before .before .args in
     let M = channel (s .self) (now (s .mem)) in
-    let h : sound M ≡ true = sym (c .before .before .before .before .before .before .is-sound .ensures) ∙ c .before .before .before .before .before .if1 .taken in
-    let z : 0 ≡ refusal M (wipe (s .station)) = sym (refusal-sound M (wipe (s .station)) h ∙ rw (lt-leb _ _ (c .before .before .before .before .if2 .left))) in
+    let h : sound M ≡ true = sym (at-is-sound .is-sound .ensures) ∙ at-if1 .if1 .taken in
+    let z : 0 ≡ refusal M (wipe (s .station)) = sym (refusal-sound M (wipe (s .station)) h ∙ rw (lt-leb _ _ (at-if2 .if2 .left))) in
     let other : Rec → Bool = λ r. not (of (s .station) r) in
     let at-zero : Rec → Bool = λ r. other r && lasts (M .m1) 0 r in
     let e : at-zero ≡ other = fun-ext (λ r. rw (le-leb 0 (lastSlot (M .m1) r) zero-le) (and-true (other r))) in
