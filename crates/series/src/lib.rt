@@ -33,7 +33,7 @@ fn times(n: u64, m: u64) -> u64
 }
 
 // The slots from the start of a superframe's block 0 to that of its block j.
-fn offset(j: u64, m1: u64, rate: u64) -> u64
+fn to_block(j: u64, m1: u64, rate: u64) -> u64
     requires { ⌜ (j ≤ 255) × (m1 ≤ 4294967295) ⌝ }
     ensures { λ r. ⌜ (r ≡ j * (m1 / rate)) × (r ≤ 1095216660225) ⌝ }
 {
@@ -57,7 +57,7 @@ fn in_superframe(base: u64, m1: u64, rate: u64, length: u64, slot: u64) -> bool
 {
     let mut j = 0;
     while j < rate {
-        if in_block(base + offset(j, m1, rate), length, slot) {
+        if in_block(base + to_block(j, m1, rate), length, slot) {
             return true;
         }
         j += 1;
@@ -92,7 +92,7 @@ pub fn last_slot(r: Rec, m1: u32) -> u64
     let m = m1 as u64;
     let rate = r.rate as u64;
     let superframes = times(less_one(r.superframes as u64), m);
-    let blocks = offset(less_one(rate), m, rate);
+    let blocks = to_block(less_one(rate), m, rate);
     less_one(r.first as u64 + superframes + blocks + r.length as u64)
 }
 

@@ -19,8 +19,8 @@ loop-holds : tie.Need-loop-holds Inv-loop μ-loop
 unfolding someBelow
 loop-holds c = (search needs, refl)
 
-offset-requires : tie.Need-offset-requires Inv-loop μ-loop
-offset-requires c κs = search needs
+to-block-requires : tie.Need-to-block-requires Inv-loop μ-loop
+to-block-requires c κs = search needs
 
 add-in-block : tie.Need-add-in-block Inv-loop μ-loop
 add-in-block c = search needs
@@ -62,7 +62,7 @@ in-superframe-spec =
     Inv-loop
     μ-loop
     loop-holds
-    offset-requires
+    to-block-requires
     add-in-block
     in-block-requires
     returns

@@ -19,8 +19,8 @@ times-requires c κs = search needs
 less-one-requires-2 : tie.Need-less-one-requires-2
 less-one-requires-2 c κs = search needs
 
-offset-requires : tie.Need-offset-requires
-offset-requires c κs = search needs
+to-block-requires : tie.Need-to-block-requires
+to-block-requires c κs = search needs
 
 cast-less-one-2 : tie.Need-cast-less-one-2
 cast-less-one-2 c = search needs
@@ -53,7 +53,7 @@ last-slot-spec =
     less-one-requires
     times-requires
     less-one-requires-2
-    offset-requires
+    to-block-requires
     cast-less-one-2
     add-less-one
     add-less-one-2
