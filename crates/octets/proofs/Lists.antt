@@ -1,14 +1,16 @@
--- Laws of `keep`, `has` and `every`. Assumes nothing.
-use Prim.Native.Nat.{ℕ, suc, _+_, _≤_, _<_, zero-le, suc-le-suc}
-use native.Mathlib.Numerals.{add-one}
+-- Laws of `keep`, `has`, `every` and `from`. Assumes nothing.
+use Prim.Native.Nat.{ℕ, zero, suc, _+_, _≤_, _<_, zero-le, suc-le-suc}
+use native.Mathlib.Numerals.{add-one, one-add}
 use native.Mathlib.Omega.{arith}
-use native.Mathlib.Nat.{le-step}
+use native.Mathlib.Nat.{le-step, zero-add, add-zero, suc-add, add-assoc}
 use mathlib.Core.Path.{_≡_, refl, sym, ap, _∙_, fun-ext}
-use mathlib.Core.Bool.{Bool, true, false, cond, not, _&&_, _||_, and-comm, and-assoc, and-true, false≢true, and-eq-true-iff}
+use mathlib.Core.Bool.{Bool, true, false, cond, not, _&&_, _||_, and-comm, and-assoc, and-true, or-assoc, false≢true, and-eq-true-iff}
 use mathlib.Core.List.{List, [], _∷_, _++_, map}
-use lib.ListN.{length, getD, drop, drop-of-length-le}
+use lib.Dec.{eqb, eqb·suc-zero}
+use borrow.Author.Tests.{eqb-true, eqb-false}
+use lib.ListN.{length, getD, take, drop, drop-of-length-le}
 use lib.Seq.{drop-cons}
-use Rattle.octets.specs.Lists.{keep, has, every}
+use Rattle.octets.specs.Lists.{keep, has, every, from}
 
 module _ {A : Type 0} where
   -- ---- keep
@@ -91,6 +93,29 @@ module _ {A : Type 0} where
       go false true e k i = absurd (false≢true (k refl))
       go false false e k i = i
 
+  pub has-append : (p : A → Bool) (xs ys : List A) → has p (xs ++ ys) ≡ (has p xs || has p ys)
+  has-append p [] ys = refl
+  has-append p (x ∷ xs) ys = rw (has-append p xs ys) (sym (or-assoc (p x) (has p xs) (has p ys)))
+
+  pub has-or : (p q : A → Bool) (xs : List A) → has (λ x. p x || q x) xs ≡ (has p xs || has q xs)
+  has-or p q [] = refl
+  has-or p q (x ∷ xs) = rw (has-or p q xs) (go (p x) (q x) (has p xs))
+    where
+      go : (a b c : Bool) → ((a || b) || (c || has q xs)) ≡ ((a || c) || (b || has q xs))
+      go true b c = refl
+      go false true true = refl
+      go false true false = refl
+      go false false c = refl
+
+  -- none passes exactly where none is kept
+  pub has-none : (p : A → Bool) (xs : List A) → not (has p xs) ≡ eqb (length (keep p xs)) 0
+  has-none p [] = refl
+  has-none p (x ∷ xs) = go (p x) (has-none p xs)
+    where
+      go : (b : Bool) → not (has p xs) ≡ eqb (length (keep p xs)) 0 → not (b || has p xs) ≡ eqb (length (cond b (x ∷ keep p xs) (keep p xs))) 0
+      go true h = sym (eqb·suc-zero (length (keep p xs)))
+      go false h = h
+
   -- ---- every
 
   pub every-not : (p : A → Bool) (xs : List A) → every (λ x. not (p x)) xs ≡ not (has p xs)
@@ -119,11 +144,9 @@ module _ {A : Type 0} where
       go true e i = rw (e, i)
       go false e i = i
 
-  pub every-append : (p : A → Bool) (xs ys : List A) → every p xs ≡ true → every p ys ≡ true → every p (xs ++ ys) ≡ true
-  every-append p [] ys h k = k
-  every-append p (x ∷ xs) ys h k =
-      let e = and-eq-true-iff (p x) (every p xs) .0 h in
-      rw (e .0, every-append p xs ys (e .1) k)
+  pub every-append : (p : A → Bool) (xs ys : List A) → every p (xs ++ ys) ≡ (every p xs && every p ys)
+  every-append p [] ys = refl
+  every-append p (x ∷ xs) ys = rw (every-append p xs ys) (sym (and-assoc (p x) (every p xs) (every p ys)))
 
   -- what one test says of an element, the other says of its change
   pub every-map : (p q : A → Bool) (f : A → A) → ((x : A) → p x ≡ true → q (f x) ≡ true) → (xs : List A) → every p xs ≡ true → every q (map f xs) ≡ true
@@ -145,6 +168,13 @@ module _ {A : Type 0} where
       let b = and-eq-true-iff (q x) (every q xs) .0 k in
       rw (a .0, b .0, every-and p q xs (a .1) (b .1))
 
+  pub every-take : (p : A → Bool) (n : ℕ) (xs : List A) → every p xs ≡ true → every p (take n xs) ≡ true
+  every-take p zero xs h = refl
+  every-take p (suc n) [] h = refl
+  every-take p (suc n) (x ∷ xs) h =
+      let e = and-eq-true-iff (p x) (every p xs) .0 h in
+      rw (e .0, every-take p n xs (e .1))
+
   -- a loop that tests element after element: what it has seen so far, and the elements from i on
   module _ (p : A → Bool) (xs : List A) (i : ℕ) (so-far : Bool) where
     pub every-next : (d : A) → i < length xs → (so-far && every p (drop i xs)) ≡ ((so-far && p (getD xs i d)) && every p (drop (i + 1) xs))
@@ -152,3 +182,54 @@ module _ {A : Type 0} where
 
     pub every-end : length xs ≤ i → so-far ≡ (so-far && every p (drop i xs))
     every-end h = rw (drop-of-length-le xs {i = i} h) (sym (and-true so-far))
+
+-- ---- numbers in a list
+
+-- what every number passes, each one does
+pub every-has : (p : ℕ → Bool) (n : ℕ) (xs : List ℕ) → every p xs ≡ true → has (eqb n) xs ≡ true → p n ≡ true
+every-has p n [] h k = absurd (false≢true k)
+every-has p n (x ∷ xs) h k =
+    let e = and-eq-true-iff (p x) (every p xs) .0 h in
+    go (eqb n x) refl k (e .0) (every-has p n xs (e .1))
+  where
+    go : (b : Bool) → eqb n x ≡ b → (b || has (eqb n) xs) ≡ true → p x ≡ true → (has (eqb n) xs ≡ true → p n ≡ true) → p n ≡ true
+    go true d i first rest = rw (eqb-true n x d) first
+    go false d i first rest = rest i
+
+-- ---- from
+
+pub from-append : (s a b : ℕ) → from s (a + b) ≡ from s a ++ from (s + a) b
+from-append s zero b = rw (zero-add, add-zero)
+from-append s (suc a) b = rw (suc-add, from-append (s + 1) a b, add-assoc s 1 a, one-add)
+
+-- one number more
+pub from-next : (s n : ℕ) → from s (n + 1) ≡ from s n ++ ((s + n) ∷ [])
+from-next s n = from-append s n 1
+
+pub keep-from-next : (p : ℕ → Bool) (s n : ℕ) → keep p (from s (n + 1)) ≡ keep p (from s n) ++ cond (p (s + n)) ((s + n) ∷ []) []
+keep-from-next p s n = rw (from-next, keep-append)
+
+pub every-from-next : (p : ℕ → Bool) (s n : ℕ) → every p (from s (n + 1)) ≡ (every p (from s n) && p (s + n))
+every-from-next p s n = rw (from-next, every-append, and-true)
+
+pub has-from : (s n x : ℕ) → s ≤ x → x < s + n → has (eqb x) (from s n) ≡ true
+has-from s zero x l k = absurd (omega arith)
+has-from s (suc n) x l k = go (eqb x s) refl (λ m. has-from (s + 1) n x m (omega arith))
+  where
+    go : (b : Bool) → eqb x s ≡ b → (s + 1 ≤ x → has (eqb x) (from (s + 1) n) ≡ true) → (b || has (eqb x) (from (s + 1) n)) ≡ true
+    go true e rest = refl
+    go false e rest = let d = eqb-false x s e in rest (omega arith)
+
+pub every-from : (p : ℕ → Bool) (s n : ℕ) → ((x : ℕ) → s ≤ x → x < s + n → p x ≡ true) → every p (from s n) ≡ true
+every-from p s zero h = refl
+every-from p s (suc n) h = rw (h s (omega arith) (omega arith), every-from p (s + 1) n (λ x l k. h x (omega arith) (omega arith)))
+
+-- two tests that agree on the row
+module _ (p q : ℕ → Bool) where
+  pub keep-from-agree : (s n : ℕ) → ((x : ℕ) → s ≤ x → x < s + n → p x ≡ q x) → keep p (from s n) ≡ keep q (from s n)
+  keep-from-agree s zero h = refl
+  keep-from-agree s (suc n) h = rw (h s (omega arith) (omega arith), keep-from-agree (s + 1) n (λ x l k. h x (omega arith) (omega arith)))
+
+  pub every-from-agree : (s n : ℕ) → ((x : ℕ) → s ≤ x → x < s + n → p x ≡ q x) → every p (from s n) ≡ every q (from s n)
+  every-from-agree s zero h = refl
+  every-from-agree s (suc n) h = rw (h s (omega arith) (omega arith), every-from-agree (s + 1) n (λ x l k. h x (omega arith) (omega arith)))

@@ -5,7 +5,7 @@ use mathlib.Core.Path.{_≡_, refl, sym, _∙_}
 use mathlib.Core.Bool.{Bool, true, false, cond, not, _&&_, _||_, true≢false, false≢true, and-eq-true-iff}
 use mathlib.Core.List.{List, [], _∷_, _++_}
 use lib.Dec.{ltb, leb, eqb, eqb·suc-zero}
-use borrow.Author.Tests.{eq-eqb, ne-eqb, ltb-false, leb-true, not-true}
+use borrow.Author.Tests.{eq-eqb, ne-eqb, eqb-false, ltb-false, leb-true, not-true}
 use Rattle.octets.specs.Lists.{every}
 use Rattle.octets.specs.Refusals.{firstOf, answer, outside, within}
 
@@ -78,6 +78,19 @@ firstOf-last n (x ∷ xs) a b h k = go (x .1) h (λ j. firstOf-last n xs a b j k
         → cond c (x .0) (firstOf (xs ++ ((n, b) ∷ []))) ≡ cond c (x .0) (firstOf (xs ++ ((n, a) ∷ [])))
     go true h rest = refl
     go false h rest = rest h
+
+-- a last test whose number no other has is what gave it
+pub firstOf-is-last : (n : ℕ) (xs : List (ℕ × Bool)) (b : Bool) → every (λ x. not (eqb (x .0) n)) xs ≡ true → (n ≡ 0 → ⊥)
+    → firstOf (xs ++ ((n, b) ∷ [])) ≡ n → b ≡ true
+firstOf-is-last n [] true h z e = refl
+firstOf-is-last n [] false h z e = absurd (z (sym e))
+firstOf-is-last n (x ∷ xs) b h z e =
+    let p = and-eq-true-iff (not (eqb (x .0) n)) (every (λ y. not (eqb (y .0) n)) xs) .0 h in
+    go (x .1) e (eqb-false (x .0) n (not-true (eqb (x .0) n) (p .0))) (firstOf-is-last n xs b (p .1) z)
+  where
+    go : (c : Bool) → cond c (x .0) (firstOf (xs ++ ((n, b) ∷ []))) ≡ n → (x .0 ≡ n → ⊥) → (firstOf (xs ++ ((n, b) ∷ [])) ≡ n → b ≡ true) → b ≡ true
+    go true e other rest = absurd (other e)
+    go false e other rest = rest e
 
 -- ---- answer
 

@@ -1,4 +1,5 @@
--- Lists by a test.
+-- Lists by a test, and numbers in a row.
+use Prim.Native.Nat.{ℕ, zero, suc, _+_}
 use mathlib.Core.Bool.{Bool, true, false, cond, _&&_, _||_}
 use mathlib.Core.List.{List, [], _∷_}
 
@@ -16,3 +17,8 @@ has p (x ∷ xs) = p x || has p xs
 abbrev pub every : {A : Type 0} → (A → Bool) → List A → Bool
 every p [] = true
 every p (x ∷ xs) = p x && every p xs
+
+-- the n numbers from s on, ascending
+abbrev pub from : ℕ → ℕ → List ℕ
+from s zero = []
+from s (suc n) = s ∷ from (s + 1) n

@@ -4,3 +4,4 @@ pub mod Loops
 pub mod Slots
 pub mod Reciprocals
 pub mod Ranges
+pub mod Looks

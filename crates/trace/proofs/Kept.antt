@@ -119,7 +119,7 @@ sound-changed t (reserve q) k h =
     let not-full = eqb-false (len (t .records)) (t .capacity) (p .1 .1 .1 .1 .1 .1 .1 .0) in
     sound-with t _ k
     (rw length-append (omega (arith, k .room)))
-    (every-append (good (t .m1) (t .now)) (t .records) (asked (t .now) q ∷ []) (k .all-good) (rw (asked-good t q k h)))
+    (rw (every-append (good (t .m1) (t .now)) (t .records) (asked (t .now) q ∷ []), k .all-good, asked-good t q k h))
 sound-changed t (distance s d limit) k h =
     let g = good (t .m1) (t .now) in
     sound-with t _ k

@@ -1,0 +1,92 @@
+-- What a search answers, by its refusals. Assumes nothing.
+use Prim.Native.Nat.{ℕ, _-_}
+use native.Mathlib.Omega.{arith}
+use mathlib.Core.Path.{_≡_, refl, sym, _∙_}
+use mathlib.Core.Bool.{true, false, cond, _||_}
+use mathlib.Core.List.{List, []}
+use lib.Dec.{leb, ltb, eqb}
+use lib.ListN.{length as len}
+use lib.Seq.{take-all}
+use borrow.Author.Tests.{ltb-false, eq-eqb, ne-eqb}
+use Rattle.octets.specs.Octets.{holdsOnly}
+use Rattle.octets.specs.Refusals.{firstOf}
+use Rattle.octets.proofs.Refusals.{firstOf-append, firstOf-stop, firstOf-zero, outside-false, or-false, answer-refused, answer-accepted}
+use Rattle.table.specs.Memory.{Channel, sound, read}
+use Rattle.search.specs.declared.Query.{Query}
+use Rattle.search.specs.Search.{statesOf, listed, queryTests, slotTests, refusal, found, searched, listAfter}
+use Rattle.search.specs.Steps.{Passed}
+use Rattle.search.proofs.Listed.{listed-none}
+
+-- ---- what passed tests tell
+
+pub passed : (m1 now : ℕ) (q : Query) (places : ℕ) → firstOf (queryTests m1 now q places) ≡ 0 → Passed q places
+passed m1 now q places z =
+    let t = firstOf-zero (queryTests m1 now q places) refl z in
+    let range = or-false (ltb (q .lo) now || ltb (q .hi) (q .lo) || ltb 1_000_000_000 (q .hi)) (leb m1 (q .hi - q .lo)) (t .0) in
+    let late = or-false (ltb (q .lo) now || ltb (q .hi) (q .lo)) (ltb 1_000_000_000 (q .hi)) (range .0) in
+    let order = or-false (ltb (q .lo) now) (ltb (q .hi) (q .lo)) (late .0) in
+    let length = outside-false 1 32 (q .length) (t .1 .0) in
+    let wanted = outside-false 1 16 (q .wanted) (t .1 .1 .0) in
+    record {
+      in-order = ltb-false (q .hi) (q .lo) (order .1);
+      not-late = ltb-false 1_000_000_000 (q .hi) (late .1);
+      some-length = length .0;
+      short = length .1;
+      some-wanted = wanted .0;
+      few = wanted .1;
+      has-room = ltb-false places (q .wanted) (t .1 .1 .1 .0);
+    }
+
+module _ (m : Channel) (q : Query) (places : ℕ) where
+  -- the refusals for which no slot is looked at
+  abbrev pub asked : ℕ
+  asked = firstOf (queryTests (m .m1) (m .now) q places)
+
+  abbrev answered : List ℕ
+  answered = listed (statesOf (read m)) q
+
+  -- ---- which refusal
+
+  pub refusal-unsound : sound m ≡ false → 11 ≡ refusal m q places
+  unfolding refusal
+  refusal-unsound h = rw h
+
+  pub refusal-asked : sound m ≡ true → (asked ≡ 0 → ⊥) → asked ≡ refusal m q places
+  unfolding refusal read
+  refusal-asked h z = rw h (sym (firstOf-stop (queryTests (m .m1) (m .now) q places) (slotTests (statesOf (read m)) q) z))
+
+  -- with the slots looked at, by the number found
+  refusal-looked : sound m ≡ true → asked ≡ 0 → refusal m q places ≡ cond (eqb (len answered) 0) 21 0
+  unfolding refusal read
+  refusal-looked h z =
+      rw (
+        h,
+        firstOf-append (queryTests (m .m1) (m .now) q places) (slotTests (statesOf (read m)) q) refl z,
+        listed-none (statesOf (read m)) q (passed (m .m1) (m .now) q places z .some-wanted),
+      )
+
+  -- ---- what is given
+
+  pub refused-gives : (n : ℕ) → n ≡ refusal m q places → (n ≡ 0 → ⊥)
+      → (record { refusal = n; number = 0 } ≡ searched m q places) × (holdsOnly places [] ≡ listAfter m q places)
+  unfolding searched listAfter found
+  refused-gives n e h =
+      let none : [] ≡ found m q places = answer-refused answered (λ _. []) e h in
+      (rw (← none, ← e), rw (← none))
+
+  module _ (h : sound m ≡ true) (z : asked ≡ 0) where
+    -- none found
+    pub none-gives : len answered ≡ 0 → (record { refusal = 21; number = 0 } ≡ searched m q places) × (holdsOnly places answered ≡ listAfter m q places)
+    none-gives e =
+        let g = refused-gives 21 (sym (refusal-looked h z ∙ rw (eq-eqb (len answered) 0 e))) (omega arith) in
+        let none : [] ≡ answered = take-all 0 answered (omega arith) in
+        (g .0, rw (← none) (g .1))
+
+    -- some found
+    pub some-gives : (len answered ≡ 0 → ⊥)
+        → (record { refusal = 0; number = len answered } ≡ searched m q places) × (holdsOnly places answered ≡ listAfter m q places)
+    unfolding searched listAfter found
+    some-gives e =
+        let r : 0 ≡ refusal m q places = sym (refusal-looked h z ∙ rw (ne-eqb (len answered) 0 e)) in
+        let some : answered ≡ found m q places = answer-accepted answered (λ _. []) r in
+        (rw (← some, ← r), rw (← some))

@@ -1,0 +1,9 @@
+pub mod Run
+pub mod Filled
+pub mod Listed
+pub mod Scanned
+pub mod Asked
+pub mod First
+pub mod None
+pub mod Window
+pub mod Answers
