@@ -1,9 +1,9 @@
--- The marked cases, by computing. Assumes nothing.
+-- The order of d bits 27-25, by computing. Assumes nothing.
 use mathlib.Core.Path.{refl}
 use Rattle.octets.specs.Refusals.{answer}
 use Rattle.codec.specs.NineOctets.{fieldTests, readTests}
-use Rattle.codec.specs.Claims.{Hold, cases}
+use Rattle.codec.specs.Claims.{BitOrder}
 
-pub marked : Hold cases
+pub bit-order : BitOrder
 unfolding answer readTests fieldTests
-marked = (refl, (refl, (refl, (refl, (refl, (refl, tt))))))
+bit-order = (refl, refl)

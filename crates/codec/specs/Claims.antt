@@ -2,11 +2,9 @@
 use Prim.Native.Nat.{ℕ, _+_, _*_, _^_}
 use mathlib.Core.Path.{_≡_}
 use mathlib.Core.List.{List, [], _∷_}
-use lib.IntN.{ℤ, pos, negsuc}
 use Rattle.octets.specs.Octets.{AreOctets}
 use Rattle.codec.specs.declared.Block.{Block}
-use Rattle.codec.specs.declared.Reading.{Reading}
-use Rattle.codec.specs.NineOctets.{octet, bits, reading, refusedReading, writing}
+use Rattle.codec.specs.NineOctets.{octet, bits, reading, writing}
 
 -- reading what was written gives the same fields
 abbrev pub WrittenIsRead : Type 0
@@ -26,33 +24,15 @@ abbrev pub ReadIsWritten : Type 0
 ReadIsWritten =
     (s : List ℕ) → AreOctets s → reading s .refusal ≡ 0 → writing (reading s .block) ≡ record { refusal = 0; octets = cleared s }
 
--- octets, and what reading them gives
-pub record Case : Type 0 where
-  pub octets : List ℕ
-  pub gives : Reading
+-- d of P1's octets with another octet 4
+abbrev pub dWith : ℕ → ℕ
+dWith octet4 = reading (0x00 ∷ 0x00 ∷ 0x01 ∷ octet4 ∷ 0x02 ∷ 0x03 ∷ 0x05 ∷ 0xFE ∷ 0x12 ∷ []) .block .d
 
--- an accepted reading of the fields d, blg, roff, br, bs, bo, bt
-abbrev pub accepted : ℕ → ℕ → ℕ → ℕ → ℕ → ℤ → ℕ → Reading
-accepted d blg roff br bs bo bt =
-    record { refusal = 0; block = record { d = d; blg = blg; roff = roff; br = br; bs = bs; bo = bo; bt = bt } }
-
--- P1 to P4; then P1 with d bit 25 and with d bit 27, which tell their order, as P1 and P2 do not
-abbrev pub cases : List Case
-cases =
-    record { octets = 0x00 ∷ 0x00 ∷ 0x01 ∷ 0x20 ∷ 0x02 ∷ 0x03 ∷ 0x05 ∷ 0xFE ∷ 0x12 ∷ []; gives = accepted 1 4 2 3 5 (negsuc 1) 2 }
-    ∷ record { octets = 0xFF ∷ 0xFF ∷ 0xFF ∷ 0xFF ∷ 0xFF ∷ 0x0D ∷ 0xFF ∷ 0x7F ∷ 0x13 ∷ []; gives = accepted 134217727 31 255 13 255 (pos 127) 3 }
-    ∷ record { octets = 0x00 ∷ 0x00 ∷ 0x01 ∷ 0x20 ∷ 0x02 ∷ 0x03 ∷ 0x05 ∷ 0x80 ∷ 0x12 ∷ []; gives = refusedReading 6 }
-    ∷ record { octets = 0x00 ∷ 0x00 ∷ 0x01 ∷ 0x20 ∷ 0x02 ∷ 0x03 ∷ 0x01 ∷ 0xFE ∷ 0x12 ∷ []; gives = refusedReading 5 }
-    ∷ record { octets = 0x00 ∷ 0x00 ∷ 0x01 ∷ 0x21 ∷ 0x02 ∷ 0x03 ∷ 0x05 ∷ 0xFE ∷ 0x12 ∷ []; gives = accepted 16777217 4 2 3 5 (negsuc 1) 2 }
-    ∷ record { octets = 0x00 ∷ 0x00 ∷ 0x01 ∷ 0x24 ∷ 0x02 ∷ 0x03 ∷ 0x05 ∷ 0xFE ∷ 0x12 ∷ []; gives = accepted 67108865 4 2 3 5 (negsuc 1) 2 }
-    ∷ []
-
--- each case reads as it says
-abbrev pub Hold : List Case → Type 0
-Hold [] = Unit {0}
-Hold (c ∷ cs) = (reading (c .octets) ≡ c .gives) × Hold cs
+-- d bit 25 is the lowest of octet 4's bits 3-1, and d bit 27 the highest: P1 and P2 read the same with d bits 27-25 reversed
+abbrev pub BitOrder : Type 0
+BitOrder = (dWith 0x21 ≡ 2 ^ 24 + 1) × (dWith 0x24 ≡ 2 ^ 26 + 1)
 
 pub record Claims : Type 0 where
   pub written-is-read : WrittenIsRead
   pub read-is-written : ReadIsWritten
-  pub marked : Hold cases
+  pub bit-order : BitOrder

@@ -1,18 +1,10 @@
--- P11, the edges and rounding, by computing. Assumes nothing.
+-- The edges and rounding, by computing. Assumes nothing.
 use mathlib.Core.Path.{_≡_, refl}
 use mathlib.Core.Bool.{true, false}
 use lib.Ieee.{ofInt, neg, add, mul, le}
 use Rattle.octets.specs.Lists.{has, every}
 use Rattle.distance.specs.Distances.{num, isFar, limitFits, offset}
 use Rattle.distance.specs.Claims.{below42, tiny, accepted, refused, edges, beyond}
-
-pub p11-far : isFar (offset (num 90) (num 120)) (num 150) ≡ true
-unfolding ofInt neg add mul le
-p11-far = refl
-
-pub p11-not-far : isFar (offset (num 90) (num 119)) (num 150) ≡ false
-unfolding ofInt neg add mul le
-p11-not-far = refl
 
 pub limits-accepted : every limitFits accepted ≡ true
 unfolding ofInt neg le

@@ -46,9 +46,6 @@ beyond =
     ∷ []
 
 pub record Claims : Type 0 where
-  -- P11
-  pub p11-far : isFar (offset (num 90) (num 120)) (num 150) ≡ true
-  pub p11-not-far : isFar (offset (num 90) (num 119)) (num 150) ≡ false
   -- a NaN is never far, and nothing is far at a limit that is one
   pub nan-range : (limit : Float) → isFar (Range nan) limit ≡ false
   pub nan-east : (north limit : Float) → isFar (offset nan north) limit ≡ false

@@ -1,11 +1,6 @@
--- The cases of `specs/Claims.antt`, by computing. Assumes nothing.
+-- Where seven blocks start, by computing. Assumes nothing.
 use mathlib.Core.Path.{refl}
-use Rattle.series.specs.Series.{lastSlot}
-use Rattle.series.specs.Claims.{P5, Spacing}
-
-pub p5 : P5
-unfolding lastSlot
-p5 = refl
+use Rattle.series.specs.Claims.{Spacing}
 
 pub spacing : Spacing
 spacing = refl

@@ -15,14 +15,6 @@ LastReserved =
 abbrev pub NoneOutside : Type 0
 NoneOutside = (m1 : ℕ) (r : Rec) (slot : ℕ) → reserves m1 r slot ≡ true → (r .first ≤ slot) × (slot ≤ lastSlot m1 r)
 
--- document 01's record T
-abbrev pub recordT : Rec
-recordT = record { station = 1; first = 105; rate = 3; superframes = 2; length = 5; far = 0 }
-
--- P5: its last slot is 7609
-abbrev pub P5 : Type 0
-P5 = lastSlot 4500 recordT ≡ 7609
-
 -- a record of seven blocks
 abbrev pub sevenBlocks : Rec
 sevenBlocks = record { station = 1; first = 0; rate = 7; superframes = 1; length = 1; far = 0 }
@@ -34,5 +26,4 @@ Spacing = map (start 60 sevenBlocks 0) (0 ∷ 1 ∷ 2 ∷ 3 ∷ 4 ∷ 5 ∷ 6 �
 pub record Claims : Type 0 where
   pub last-reserved : LastReserved
   pub none-outside : NoneOutside
-  pub p5 : P5
   pub spacing : Spacing

@@ -3,4 +3,4 @@ pub mod Written
 pub mod Simulation
 pub mod Demand3
 pub mod Looks
-pub mod Marked
+pub mod Premise

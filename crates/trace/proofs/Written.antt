@@ -64,6 +64,10 @@ read-write t k =
     let e = records-packed (t .capacity) (t .records) (k .room) (all-in-range t k) in
     λ i. record { m1 = t .m1; now = t .now; capacity = c i; records = e i }
 
+pub records-write : (t : Table) → Sound t → records (write t) ≡ t .records
+unfolding read
+records-write t k = ap (λ u. u .records) (read-write t k)
+
 -- ---- soundness over octets and over records
 
 pub sound-write : (t : Table) → Sound t → sound (write t) ≡ true
@@ -109,6 +113,9 @@ module _ (t : Table) (k : Sound t) where
   leaves-write (wipe s) = acts-write (wipe s)
   leaves-write (look f) = ap write (sym (after-look t f))
 
+  pub leaves-records : (c : Call) → records (leaves (write t) c) ≡ after t c .records
+  leaves-records c = rw (leaves-write c) (records-write (after t c) (sound-after t c k))
+
   says-write : (c : Call) → says (write t) c ≡ told t c
   unfolding says told
   says-write c = rw (refusal-write c, read-write t k)
@@ -144,3 +151,6 @@ module _ (m1 : ℕ) (b : List ℕ) (o : openRefusal m1 b ≡ 0) where
   opened-write =
       let e : (capacity b - 0) * size ≡ len b = unfold size in omega (arith, whole-length b (open-fits .1)) in
       rw e
+
+  pub opened-runs : (cs : List Call) → runs (opened m1 b) cs ≡ write (run (empty m1 b) cs)
+  opened-runs cs = rw (opened-write, runs-write (empty m1 b) sound-empty cs)

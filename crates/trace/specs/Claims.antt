@@ -8,13 +8,11 @@ use Rattle.octets.specs.Lists.{every}
 use Rattle.octets.specs.Refusals.{firstOf}
 use Rattle.distance.specs.declared.Distance.the-variants.{Unknown}
 use Rattle.distance.specs.Distances.{num}
-use Rattle.series.specs.Claims.{recordT}
 use Rattle.table.specs.declared.State.{State}
 use Rattle.table.specs.declared.Answer.{Answer}
 use Rattle.table.specs.declared.Request.{Request}
-use Rattle.table.specs.declared.Slot.the-variants.{Free, Taken}
-use Rattle.table.specs.Table.{Said, Call, clock, reserve, wipe, look, tests}
-use Rattle.table.specs.Memory.{Channel, channel, records, sound, read, leaves, says, returned, openRefusal, opened, openLeaves, openReturned}
+use Rattle.table.specs.Table.{Said, Call, reserve, wipe, look, tests}
+use Rattle.table.specs.Memory.{Channel, channel, sound, read, leaves, says, returned, openRefusal, opened, openLeaves, openReturned}
 use Rattle.table.specs.Slots.{slotAnswer, said, asks}
 use Rattle.trace.specs.Sequences.{runs, logs, is, without, othersTold, roomy, Made}
 
@@ -76,38 +74,20 @@ OneResult =
 abbrev pub SlotStateLooks : Type 0
 SlotStateLooks = (m : Channel) (slot : ℕ) → said (slotAnswer m slot) ≡ says m (look (asks slot))
 
--- ---- the marked cases of record T
+-- ---- why demand 3 has its premise
 
--- what a station asks for T, near: rate 3, superframes 2, bs 5, length 5
-abbrev pub requestT : ℕ → Request
-requestT s = record { station = s; rate = 3; superframes = 2; bs = 5; length = 5; distance = Unknown; limit = num 150 }
+-- what a station asks for
+abbrev pub oneSlot : ℕ → Request
+oneSlot s = record { station = s; rate = 1; superframes = 1; bs = 2; length = 1; distance = Unknown; limit = num 150 }
 
 -- room for one record
 abbrev pub opened1 : Channel
 opened1 = opened 4500 (replicate 12 0)
 
--- T, alone in its table: station 1, M1 4500, now 100
-abbrev pub tableT : Channel
-tableT = runs opened1 (clock 100 ∷ reserve (requestT 1) ∷ [])
-
--- what it holds, P6 and P7
-pub record MarkedCases : Type 0 where
-  pub alone : records tableT ≡ recordT ∷ []
-  -- P6: slots 104 and 110 free, 105 and 109 taken
-  pub free104 : slotAnswer tableT 104 ≡ Free
-  pub taken105 : slotAnswer tableT 105 ≡ Taken
-  pub taken109 : slotAnswer tableT 109 ≡ Taken
-  pub free110 : slotAnswer tableT 110 ≡ Free
-  -- P7: kept at clock 7609, gone at 7610
-  pub kept7609 : records (leaves tableT (clock 7609)) ≡ recordT ∷ []
-  pub gone7610 : records (leaves tableT (clock 7610)) ≡ []
-
--- ---- why demand 3 has its premise
-
 -- station 1 takes the only place, and station 2 is refused because the table is full: without station 1 it is not
 abbrev pub PremiseNeeded : Type 0
 PremiseNeeded =
-    let cs = reserve (requestT 1) ∷ reserve (requestT 2) ∷ [] in
+    let cs = reserve (oneSlot 1) ∷ reserve (oneSlot 2) ∷ [] in
     leaves (runs opened1 cs) (wipe 1) ≡ runs opened1 (without (is 1) cs) → ⊥
 
 pub record Claims : Type 0 where
@@ -119,5 +99,4 @@ pub record Claims : Type 0 where
   pub refused-changes-nothing : RefusedChangesNothing
   pub one-result : OneResult
   pub slot-state-looks : SlotStateLooks
-  pub marked : MarkedCases
   pub premise-needed : PremiseNeeded

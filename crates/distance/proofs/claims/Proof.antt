@@ -1,6 +1,6 @@
 -- `distance::claims` promises what the laws prove. Assumes nothing.
 use mathlib.Core.Path.{refl}
-use Rattle.distance.proofs.Cases.{p11-far, p11-not-far, limits-accepted, limits-refused, edges-far, beyond-not-far, rounded-to-150, rounded-to-0}
+use Rattle.distance.proofs.Cases.{limits-accepted, limits-refused, edges-far, beyond-not-far, rounded-to-150, rounded-to-0}
 use Rattle.distance.proofs.Distances.{nan-range, nan-east, nan-north, nan-limit, other-kinds}
 use Rattle.distance.proofs.claims.Statement.{statement}
 use Rattle.distance.proofs.claims.Tie as tie
@@ -8,8 +8,6 @@ use Rattle.distance.proofs.claims.Tie as tie
 returns : tie.Need-returns
 returns c =
     record {
-      p11-far = p11-far;
-      p11-not-far = p11-not-far;
       nan-range = nan-range;
       nan-east = nan-east;
       nan-north = nan-north;

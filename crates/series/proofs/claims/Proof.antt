@@ -1,11 +1,11 @@
 -- `series::claims` promises what the laws prove. Assumes nothing.
-use Rattle.series.proofs.Cases.{p5, spacing}
+use Rattle.series.proofs.Cases.{spacing}
 use Rattle.series.proofs.Series.{last-reserved, none-outside}
 use Rattle.series.proofs.claims.Statement.{statement}
 use Rattle.series.proofs.claims.Tie as tie
 
 returns : tie.Need-returns
-returns c = record { last-reserved = last-reserved; none-outside = none-outside; p5 = p5; spacing = spacing }
+returns c = record { last-reserved = last-reserved; none-outside = none-outside; spacing = spacing }
 
 pub claims-spec : {M : Type 1} → statement M
 claims-spec = tie.close (tie.spec returns)

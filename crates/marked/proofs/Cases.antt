@@ -1,0 +1,83 @@
+-- The marked cases: over octets those of record T are what they are over records, and all of them by computing. Assumes nothing.
+use Prim.Native.Nat.{ℕ}
+use mathlib.Core.Path.{_≡_, refl, sym, ap, _∙_}
+use mathlib.Core.List.{List, [], map}
+use lib.Ieee.{ofInt, neg, add, mul, le}
+use lib.ListN.{replicate}
+use Rattle.octets.specs.Refusals.{firstOf, answer}
+use Rattle.codec.specs.Parameters as Parameters
+use Rattle.codec.specs.NineOctets.{fieldTests, readTests}
+use Rattle.distance.specs.declared.Distance.{Distance}
+use Rattle.record.specs.Record.{size, capacity}
+use Rattle.series.specs.Series.{someBelow, inBlock, reserves, lastSlot}
+use Rattle.table.specs.Table.{Table, clock, lasts}
+use Rattle.table.specs.Memory.{records, write, leaves, openRefusal}
+use Rattle.table.specs.Slots.{stateBy, slotState, slotAnswer}
+use Rattle.trace.proofs.Kept.{after, run, Sound, sound-run}
+use Rattle.trace.proofs.Written.{records-write, leaves-records, empty, sound-empty, opened-runs}
+use Rattle.trace.proofs.Looks.{slotOn, slot-write}
+use Rattle.search.specs.declared.Query.{Query}
+use Rattle.search.specs.Search.{level0, level1, qualifying, listed, statesOf, tests, refusal, found}
+use Rattle.marked.specs.Marked.{callsT, tableT, Marked}
+use Rattle.marked.proofs.Searches.{refusal-write, found-write}
+
+-- ---- T's table over records
+
+-- twelve octets, room for one record
+abbrev lent : List ℕ
+lent = replicate 12 0
+
+accepted : openRefusal 4500 lent ≡ 0
+unfolding openRefusal Parameters.fits capacity size
+accepted = refl
+
+module _ (d : Distance) where
+  abbrev held : Table
+  held = run (empty 4500 lent) (callsT d)
+
+  sound-held : Sound held
+  sound-held = sound-run (empty 4500 lent) (callsT d) (sound-empty 4500 lent accepted)
+
+  written : tableT d ≡ write held
+  written = opened-runs 4500 lent accepted (callsT d)
+
+  -- ---- what is asked of it
+
+  stored : records (tableT d) ≡ held .records
+  stored = rw written (records-write held sound-held)
+
+  judged : (slot : ℕ) → slotAnswer (tableT d) slot ≡ slotOn held slot
+  judged slot = rw written (slot-write held slot sound-held)
+
+  clocked : (slot : ℕ) → records (leaves (tableT d) (clock slot)) ≡ after held (clock slot) .records
+  clocked slot = rw written (leaves-records held sound-held (clock slot))
+
+  searched : (q : Query) → found (tableT d) q 3 ≡ answer (firstOf (tests held q 3)) (listed (statesOf held) q) (λ _. [])
+  searched q = rw written (found-write held sound-held q 3)
+
+  refused : (q : Query) → refusal (tableT d) q 3 ≡ firstOf (tests held q 3)
+  refused q = rw written (refusal-write held sound-held q 3)
+
+-- ---- the cases
+
+pub marked : Marked
+unfolding answer readTests fieldTests ofInt neg add mul le after capacity size lasts lastSlot slotState stateBy reserves someBelow inBlock level0 level1 qualifying listed
+marked =
+    record {
+      p1 = refl;
+      p2 = refl;
+      p3 = refl;
+      p4 = refl;
+      p5 = ap (map (lastSlot 4500)) (stored _);
+      p6-104 = judged _ _;
+      p6-110 = judged _ _;
+      p6-105 = judged _ _;
+      p6-109 = judged _ _;
+      p7-kept = clocked _ _ ∙ sym (stored _);
+      p7-gone = clocked _ _;
+      p8 = searched _ _;
+      p9 = searched _ _;
+      p10 = refused _ _;
+      p11-far = refl;
+      p11-not-far = refl;
+    }

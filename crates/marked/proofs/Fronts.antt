@@ -1,0 +1,21 @@
+-- An output list that holds an answer only has it at its front. Assumes nothing.
+use Prim.Native.Nat.{ℕ}
+use mathlib.Core.Path.{_≡_, ap}
+use mathlib.Core.List.{List}
+use native.Mathlib.Omega.{arith}
+use lib.ListN.{length, length-append}
+use lib.Seq.{take-append-seam}
+use Rattle.octets.specs.Octets.{holdsOnly}
+use Rattle.table.specs.Memory.{Channel}
+use Rattle.search.specs.declared.Query.{Query}
+use Rattle.search.specs.declared.Found.{Found}
+use Rattle.search.specs.Search.{found, searched, listAfter}
+use Rattle.io.specs.Counts.{Counts}
+
+pub counts-only : (places n : ℕ) (answer out : List ℕ) → n ≡ length answer → out ≡ holdsOnly places answer → Counts n out
+counts-only places n answer out e f = rw (f, e) (rw length-append (omega arith), rw take-append-seam)
+
+-- so has a search's list what was found
+pub counts-found : (m : Channel) (q : Query) (places : ℕ) (r : Found) (out : List ℕ) → r ≡ searched m q places → out ≡ listAfter m q places → Counts (r .number) out
+unfolding searched listAfter
+counts-found m q places r out e f = counts-only places (r .number) (found m q places) out (ap (λ x. x .number) e) f

@@ -1,0 +1,290 @@
+// Document 01's marked cases: one claim over the definitions, and the same cases run through the functions. Beside them run cases of
+// slips that the marked ones let through, and 000's example of a superframe block reservation.
+use distance::Distance;
+use distance::Offset;
+use libc::STDOUT_FILENO;
+use search::Query;
+use table::Request;
+use table::Slot;
+use table::State;
+ghost use Prim.Native.Nat.{_≤_};
+ghost use Rattle.marked.specs.Marked.{Marked};
+
+// Every marked case holds of the definitions that the functions promise.
+fn claims()
+    ensures { λ _. ⌜ Marked ⌝ }
+{}
+
+// ---- what is written: a line's name, its items with a space in front of each, and its end
+
+// Tells why standard output could not be written, unless it was.
+fn tell_unless(is_written: bool) {
+    if !is_written {
+        os::fail(b"marked: standard output");
+    }
+}
+
+fn put(text: &[u8]) {
+    tell_unless(io::write_all(STDOUT_FILENO, text));
+}
+
+fn put_number(n: u64) {
+    put(b" ");
+    tell_unless(io::print_decimal(STDOUT_FILENO, n));
+}
+
+fn put_numbers(list: &[u32]) {
+    let mut i = 0;
+    while i < list.len() {
+        put_number(list[i] as u64);
+        i += 1;
+    }
+}
+
+fn put_refused(n: u32) {
+    put(b" refused");
+    put_number(n as u64);
+}
+
+fn put_slot(x: Slot) {
+    match x {
+        Slot::Free => put(b" free"),
+        Slot::Reusable => put(b" reusable"),
+        Slot::Taken => put(b" taken"),
+        Slot::Refused(n) => put_refused(n),
+    }
+}
+
+// ---- P1 to P4
+
+const P1: [u8; 9] = [0x00, 0x00, 0x01, 0x20, 0x02, 0x03, 0x05, 0xFE, 0x12];
+
+const P2: [u8; 9] = [0xFF, 0xFF, 0xFF, 0xFF, 0xFF, 0x0D, 0xFF, 0x7F, 0x13];
+
+// P1 with another octet k, counted from 1.
+fn p1_with(k: usize, octet: u8) -> [u8; 9]
+    requires { ⌜ (1 ≤ k) × (k ≤ 9) ⌝ }
+{
+    let mut octets = P1;
+    octets[k - 1] = octet;
+    octets
+}
+
+// A group's line, which the listing ends.
+fn put_group(name: &[u8], octets: &[u8]) {
+    let mut text = [0u8; lines::LONGEST];
+    let n = lines::list(octets, &mut text);
+    put(name);
+    put(b" ");
+    put(&text[..n]);
+}
+
+fn put_readings() {
+    put_group(b"P1", &P1);
+    put_group(b"P2", &P2);
+    put_group(b"P3", &p1_with(8, 0x80));
+    put_group(b"P4", &p1_with(7, 0x01));
+}
+
+// ---- P5 to P10: record T, alone in its table
+
+// The manual's default for Q2a.
+const LIMIT: f64 = 150.0;
+
+// The table that holds what is asked for at a slot, alone.
+fn reserve_alone(mem: &mut [u8], m1: u32, slot: u32, q: Request) -> State {
+    let opened = State::open(mem, m1).state;
+    let clocked = opened.clock(mem, slot).state;
+    clocked.reserve(mem, q).state
+}
+
+// What a station asks for T.
+fn request_t(station: u32, distance: Distance) -> Request {
+    Request {
+        station,
+        rate: 3,
+        superframes: 2,
+        bs: 5,
+        length: 5,
+        distance,
+        limit: LIMIT,
+    }
+}
+
+fn reserve_t(mem: &mut [u8], distance: Distance) -> State {
+    reserve_alone(mem, 4500, 100, request_t(1, distance))
+}
+
+fn put_last_slot(s: State, mem: &[u8]) {
+    put(b"P5");
+    put_number(series::last_slot(record::load(mem, 0), s.m1));
+    put(b"\n");
+}
+
+fn put_slots(s: State, mem: &[u8]) {
+    put(b"P6");
+    put_slot(table::slot_state(s, mem, 104));
+    put_slot(table::slot_state(s, mem, 110));
+    put_slot(table::slot_state(s, mem, 105));
+    put_slot(table::slot_state(s, mem, 109));
+    put(b"\n");
+}
+
+// Whether T is there after a clock, which is made on a copy of its table.
+fn put_kept(s: State, mem: [u8; 12], slot: u32) {
+    let mut left = mem;
+    if s.clock(&mut left, slot).state.count == 1 {
+        put(b" kept");
+    } else {
+        put(b" gone");
+    }
+}
+
+fn put_clocks(s: State, mem: [u8; 12]) {
+    put(b"P7");
+    put_kept(s, mem, 7609);
+    put_kept(s, mem, 7610);
+    put(b"\n");
+}
+
+// What a search for three blocks of two slots gives. A refused one finds none.
+fn put_search(name: &[u8], s: State, mem: &[u8], lo: u32, hi: u32) {
+    let q = Query {
+        lo,
+        hi,
+        length: 2,
+        wanted: 3,
+    };
+    let mut list = [0u32; 3];
+    let found = search::search(s, mem, q, &mut list);
+    let n = found.number as usize;
+    put(name);
+    if found.refusal != 0 {
+        put_refused(found.refusal);
+    }
+    put_numbers(&list[..n]);
+    put(b"\n");
+}
+
+fn put_t() {
+    let mut near_mem = [0u8; 12];
+    let mut far_mem = [0u8; 12];
+    let near = reserve_t(&mut near_mem, Distance::Unknown);
+    let far = reserve_t(&mut far_mem, Distance::Range(LIMIT));
+    put_last_slot(near, &near_mem);
+    put_slots(near, &near_mem);
+    put_clocks(near, near_mem);
+    put_search(b"P8", near, &near_mem, 105, 111);
+    put_search(b"P9", far, &far_mem, 105, 111);
+    put_search(b"P10", near, &near_mem, 105, 105);
+}
+
+// ---- P11
+
+fn put_offset(east: f64, north: f64) {
+    if distance::far(Distance::Offset(Offset { east, north }), LIMIT) {
+        put(b" far");
+    } else {
+        put(b" not far");
+    }
+}
+
+fn put_offsets() {
+    put(b"P11");
+    put_offset(90.0, 120.0);
+    put(b",");
+    put_offset(90.0, 119.0);
+    put(b"\n");
+}
+
+// ---- slips that the marked cases let through, and 000's example
+
+// P1 and P2 read the same with d bits 27-25 reversed.
+fn put_d_bits() {
+    put_group(b"d bit 25:", &p1_with(4, 0x21));
+    put_group(b"d bit 27:", &p1_with(4, 0x24));
+}
+
+// What a near station asks for in one superframe.
+fn request_blocks(rate: u32, bs: u32, length: u32) -> Request {
+    Request {
+        station: 1,
+        rate,
+        superframes: 1,
+        bs,
+        length,
+        distance: Distance::Unknown,
+        limit: LIMIT,
+    }
+}
+
+fn is_held(s: State, mem: &[u8], slot: u32) -> bool {
+    match table::slot_state(s, mem, slot) {
+        Slot::Free => false,
+        _ => true,
+    }
+}
+
+// Where the runs of held slots start. How many slots are held.
+fn put_blocks(s: State, mem: &[u8], from: u32, to: u32) -> u32 {
+    put(b" blocks at");
+    let mut was_held = false;
+    let mut n = 0;
+    let mut slot = from;
+    while slot < to {
+        let held = is_held(s, mem, slot);
+        if held & !was_held {
+            put_number(slot as u64);
+        }
+        if held {
+            n += 1;
+        }
+        was_held = held;
+        slot += 1;
+    }
+    n
+}
+
+// Where M1 is no multiple of the rate R, j*M1/R differs from j*(M1/R).
+fn put_spacing(name: &[u8], m1: u32, rate: u32) {
+    let mut mem = [0u8; 12];
+    let s = reserve_alone(&mut mem, m1, 0, request_blocks(rate, 2, 1));
+    put(name);
+    put_blocks(s, &mem, 0, m1);
+    put(b"\n");
+}
+
+// One far record is not enough for a slot that a near one also holds.
+fn put_near_and_far() {
+    let mut mem = [0u8; 24];
+    let near = reserve_t(&mut mem, Distance::Unknown);
+    let both = near.reserve(&mut mem, request_t(2, Distance::Range(LIMIT)))
+        .state;
+    put(b"near and far on one slot:");
+    put_slot(table::slot_state(both, &mem, 105));
+    let far = both.wipe(&mut mem, 1).state;
+    put(b", far alone:");
+    put_slot(table::slot_state(far, &mem, 105));
+    put(b"\n");
+}
+
+fn put_example() {
+    let mut mem = [0u8; 12];
+    let s = reserve_alone(&mut mem, 4500, 90, request_blocks(3, 10, 10));
+    put(b"000's three blocks of ten slots:");
+    let held = put_blocks(s, &mem, 90, 4590);
+    put(b", slots held:");
+    put_number(held as u64);
+    put(b"\n");
+}
+
+fn main() {
+    put_readings();
+    put_t();
+    put_offsets();
+    put_d_bits();
+    put_spacing(b"M1 60, rate 7:", 60, 7);
+    put_spacing(b"M1 4500, rate 8:", 4500, 8);
+    put_near_and_far();
+    put_example();
+}
