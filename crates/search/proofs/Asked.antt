@@ -14,13 +14,13 @@ use Rattle.octets.proofs.Refusals.{firstOf-append, firstOf-stop, firstOf-zero, 
 use Rattle.table.specs.Memory.{Channel, sound, read}
 use Rattle.search.specs.declared.Query.{Query}
 use Rattle.search.specs.Search.{statesOf, listed, queryTests, slotTests, refusal, found, searched, listAfter}
-use Rattle.search.specs.Steps.{Passed}
+use Rattle.search.specs.Steps.{WellAsked}
 use Rattle.search.proofs.Listed.{listed-none}
 
 -- ---- what passed tests tell
 
-pub passed : (m1 now : ℕ) (q : Query) (places : ℕ) → firstOf (queryTests m1 now q places) ≡ 0 → Passed q places
-passed m1 now q places z =
+pub well-asked : (m1 now : ℕ) (q : Query) (places : ℕ) → firstOf (queryTests m1 now q places) ≡ 0 → WellAsked q places
+well-asked m1 now q places z =
     let t = firstOf-zero (queryTests m1 now q places) refl z in
     let range = or-false (ltb (q .lo) now || ltb (q .hi) (q .lo) || ltb 1_000_000_000 (q .hi)) (leb m1 (q .hi - q .lo)) (t .0) in
     let late = or-false (ltb (q .lo) now || ltb (q .hi) (q .lo)) (ltb 1_000_000_000 (q .hi)) (range .0) in
@@ -62,7 +62,7 @@ module _ (m : Channel) (q : Query) (places : ℕ) where
       rw (
         h,
         firstOf-append (queryTests (m .m1) (m .now) q places) (slotTests (statesOf (read m)) q) refl z,
-        listed-none (statesOf (read m)) q (passed (m .m1) (m .now) q places z .some-wanted),
+        listed-none (statesOf (read m)) q (well-asked (m .m1) (m .now) q places z .some-wanted),
       )
 
   -- ---- what is given

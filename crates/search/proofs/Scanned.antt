@@ -13,7 +13,7 @@ use Rattle.table.specs.declared.Slot.{Slot}
 use Rattle.search.specs.declared.Query.{Query}
 use Rattle.search.specs.declared.Runs.{Runs}
 use Rattle.search.specs.Search.{level0, level1, listed}
-use Rattle.search.specs.Steps.{Passed, runs, further, put, next}
+use Rattle.search.specs.Steps.{WellAsked, runs, further, put, next}
 use Rattle.search.proofs.Run.{runs-≤, runs-next, runs-level0, runs-level1}
 use Rattle.search.proofs.Filled.{Filled, filled-none, filled-next, filled-take}
 use Rattle.search.proofs.Listed.{listed-early, listed-all}
@@ -32,7 +32,7 @@ pub record Scanned (states : ℕ → Slot) (q : Query) (places room start : ℕ)
   pub untaken : Filled room (q .wanted) (below q (level1 states (q .length)) start) kept later
 
 module _ {states : ℕ → Slot} {q : Query} {places room : ℕ} where
-  pub scanned-none : Passed q places → {r : Runs} {list later : List ℕ} → r ≡ runs states (q .lo) (q .length - 1)
+  pub scanned-none : WellAsked q places → {r : Runs} {list later : List ℕ} → r ≡ runs states (q .lo) (q .length - 1)
       → list ≡ holdsOnly places [] → later ≡ holdsOnly room [] → Scanned states q places room (q .lo) r 0 0 list later
   scanned-none p e f g =
       let none : q .lo - q .lo ≡ 0 = omega arith in
@@ -50,7 +50,7 @@ module _ {states : ℕ → Slot} {q : Query} {places room : ℕ} where
     scanned-≤ = runs-≤ states (q .lo) (start - q .lo + (q .length - 1)) r (s .judged)
 
     -- the block at start decided, by the runs with its last slot
-    module _ (p : Passed q places) (room-for : q .wanted ≤ room) (on : start ≤ q .hi) {r′ : Runs} (e : r′ ≡ further r (states (start + (q .length - 1)))) where
+    module _ (p : WellAsked q places) (room-for : q .wanted ≤ room) (on : start ≤ q .hi) {r′ : Runs} (e : r′ ≡ further r (states (start + (q .length - 1)))) where
       abbrev m : ℕ
       m = start - q .lo
 

@@ -10,7 +10,7 @@ use Rattle.search.specs.declared.Runs.{Runs}
 use Rattle.search.specs.Search.{isFree, isTaken}
 
 -- what the tests before 21 leave of a query
-pub record Passed (q : Query) (places : ℕ) : Type 0 where
+pub record WellAsked (q : Query) (places : ℕ) : Type 0 where
   pub in-order : q .lo ≤ q .hi
   pub not-late : q .hi ≤ 1_000_000_000
   pub some-length : 0 < q .length

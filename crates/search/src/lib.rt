@@ -9,7 +9,7 @@ ghost use Rattle.octets.specs.Octets.{holdsOnly};
 ghost use Rattle.octets.specs.Refusals.{firstOf};
 ghost use Rattle.table.specs.Memory.{channel, read};
 ghost use Rattle.search.specs.Search.{statesOf, queryTests, listed, listAfter, searched, picked};
-ghost use Rattle.search.specs.Steps.{further, runs, next, put, Passed};
+ghost use Rattle.search.specs.Steps.{further, runs, next, put, WellAsked};
 ghost use Rattle.search.specs.Claims.{Claims};
 
 // What a search is given: where a block may start, its length, and how many starts are wanted.
@@ -81,7 +81,7 @@ fn wipe(list: &mut [u32])
 
 // ---- the runs up to a slot
 
-// The runs with one slot more.
+// The runs with one slot more. A judged slot is never refused, and counts here as the definitions have it: neither free nor taken.
 fn lengthen(r: Runs, x: Slot) -> Runs
     requires { ⌜ (r .free < 4294967295) × (r .untaken < 4294967295) ⌝ }
     ensures { λ v. ⌜ v ≡ further r x ⌝ }
@@ -156,7 +156,7 @@ fn append(list: &mut [u32], n: usize, most: usize, later: &[u32], kept: usize) -
 
 // Goes along the slots, each judged once, with the level 0 starts in `list` and the level 1 starts in `later`, both wiped.
 fn scan(s: State, mem: &[u8], q: Query, list: &mut [u32], later: &mut [u32]) -> usize
-    requires { ⌜ Passed q (length (now list)) × (q .wanted ≤ length (now later)) ⌝ }
+    requires { ⌜ WellAsked q (length (now list)) × (q .wanted ≤ length (now later)) ⌝ }
     requires { ⌜ (now list ≡ holdsOnly (length (now list)) []) × (now later ≡ holdsOnly (length (now later)) []) ⌝ }
     ensures number { λ r. ⌜ r ≡ length (listed (statesOf (read (channel s (now (mem .entry))))) q) ⌝ }
     ensures list { λ _. ⌜ now (list .exit) ≡ holdsOnly (length (now (list .entry))) (listed (statesOf (read (channel s (now (mem .entry))))) q) ⌝ }
@@ -207,7 +207,7 @@ pub fn search(s: State, mem: &[u8], q: Query, list: &mut [u32]) -> Found
     refuse(11)
 }
 
-// Which of the n found is taken, by a number r. Refused 20 for n outside 1..16.
+// Which of the n found to use, by a number r. Refused 20 for n outside 1..16.
 pub fn pick(n: u32, r: u32) -> Picked
     ensures { λ p. ⌜ p ≡ picked n r ⌝ }
 {

@@ -9,9 +9,9 @@ use borrow.Author.Needs.{needs}
 use Rattle.table.specs.Memory.{Channel, channel, read, sound}
 use Rattle.search.specs.declared.Query.{Query}
 use Rattle.search.specs.Search.{statesOf}
-use Rattle.search.specs.Steps.{Passed}
+use Rattle.search.specs.Steps.{WellAsked}
 use Rattle.search.proofs.Listed.{length-listed}
-use Rattle.search.proofs.Asked.{passed, asked, refusal-unsound, refusal-asked, refused-gives, none-gives, some-gives}
+use Rattle.search.proofs.Asked.{well-asked, asked, refusal-unsound, refusal-asked, refused-gives, none-gives, some-gives}
 use Rattle.search.proofs.search.Statement.{statement}
 use Rattle.search.proofs.search.Tie as tie
 
@@ -44,8 +44,8 @@ module _ (c : tie.After-ask) where
   is-asked = c .ask .ensures ∙ ap (asked (given at-is-sound) (query at-is-sound)) (at-wipe at-is-sound .wipe .kept .0)
 
   -- what a query that is not refused has passed
-  is-passed : c .ask .result ≡ 0 → Passed (query at-is-sound) (places at-is-sound)
-  is-passed z = passed (given at-is-sound .m1) (given at-is-sound .now) (query at-is-sound) (places at-is-sound) (sym is-asked ∙ z)
+  is-well-asked : c .ask .result ≡ 0 → WellAsked (query at-is-sound) (places at-is-sound)
+  is-well-asked z = well-asked (given at-is-sound .m1) (given at-is-sound .now) (query at-is-sound) (places at-is-sound) (sym is-asked ∙ z)
 
 abbrev at-ask : tie.After-scan → tie.After-ask
 at-ask c = c .before .before .before .before
@@ -83,7 +83,7 @@ scan-requires : tie.Need-scan-requires
 scan-requires c κs =
     let d = c .before .before .before in
     let w = at-wipe (at-is-sound d) .wipe in
-    let p = is-passed d (c .before .before .if2 .left) in
+    let p = is-well-asked d (c .before .before .if2 .left) in
     ((rw (w .kept .0) p, p .few), (rw (w .kept .0) (w .ensures), refl))
 
 refuse-requires-2 : tie.Need-refuse-requires-2
@@ -105,7 +105,7 @@ cast-t18 : tie.Need-cast-t18
 cast-t18 c =
     let x = c .before .before .before .before in
     let a = at-is-sound (at-ask x) in
-    let p = is-passed (at-ask x) (x .before .before .before .if2 .left) in
+    let p = is-well-asked (at-ask x) (x .before .before .before .if2 .left) in
     omega (arith, x .scan .ensures .0, length-listed (statesOf (read (given a))) (query a), p .few)
 
 same-length-3 : tie.Need-same-length-3
