@@ -10,8 +10,9 @@ use Rattle.codec.specs.NineOctets.{fieldTests, readTests}
 use Rattle.distance.specs.declared.Distance.{Distance}
 use Rattle.record.specs.Record.{size, capacity}
 use Rattle.series.specs.Series.{someBelow, inBlock, reserves, lastSlot}
-use Rattle.table.specs.Table.{Table, clock, lasts}
-use Rattle.table.specs.Memory.{records, write, leaves, openRefusal}
+use Rattle.sound.specs.Sound.{records, lasts}
+use Rattle.table.specs.Table.{Table, clock}
+use Rattle.table.specs.Memory.{write, leaves, openRefusal}
 use Rattle.table.specs.Slots.{stateBy, slotState, slotAnswer}
 use Rattle.trace.proofs.Kept.{after, run, Sound, sound-run}
 use Rattle.trace.proofs.Written.{records-write, leaves-records, empty, sound-empty, opened-runs}

@@ -6,11 +6,11 @@ use native.Mathlib.Omega.{arith}
 use lib.ListN.{length, length-append}
 use lib.Seq.{take-append-seam}
 use Rattle.octets.specs.Octets.{holdsOnly}
-use Rattle.table.specs.Memory.{Channel}
 use Rattle.search.specs.declared.Query.{Query}
 use Rattle.search.specs.declared.Found.{Found}
 use Rattle.search.specs.Search.{found, searched, listAfter}
 use Rattle.io.specs.Counts.{Counts}
+use Rattle.sound.specs.Sound.{Channel}
 
 pub counts-only : (places n : ℕ) (answer out : List ℕ) → n ≡ length answer → out ≡ holdsOnly places answer → Counts n out
 counts-only places n answer out e f = rw (f, e) (rw length-append (omega arith), rw take-append-seam)

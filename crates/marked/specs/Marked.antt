@@ -11,9 +11,10 @@ use Rattle.distance.specs.declared.Distance.{Distance}
 use Rattle.distance.specs.declared.Distance.the-variants.{Unknown, Range}
 use Rattle.distance.specs.Distances.{num, isFar, offset}
 use Rattle.series.specs.Series.{lastSlot}
+use Rattle.sound.specs.Sound.{Channel, records}
 use Rattle.table.specs.declared.Slot.the-variants.{Free, Taken}
 use Rattle.table.specs.Table.{Call, clock, reserve}
-use Rattle.table.specs.Memory.{Channel, records, leaves, opened}
+use Rattle.table.specs.Memory.{leaves, opened}
 use Rattle.table.specs.Slots.{slotAnswer}
 use Rattle.trace.specs.Sequences.{runs}
 use Rattle.search.specs.declared.Query.{Query}

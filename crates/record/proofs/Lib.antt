@@ -2,3 +2,4 @@ pub mod Cases
 pub mod Fields
 pub mod Views
 pub mod Places
+pub mod ToCome

@@ -1,7 +1,7 @@
 // Records in lent memory, 12 octets each. Nothing above this crate knows how they lie there.
 ghost use mathlib.Core.Path.{_≡_};
-ghost use Prim.Native.Nat.{_+_, _*_, _≤_};
-ghost use lib.ListN.{length, getD, set};
+ghost use Prim.Native.Nat.{_+_, _*_, _≤_, min};
+ghost use lib.ListN.{length, getD, set, take};
 ghost use Rattle.octets.specs.Octets.{zeros, zeroFrom};
 ghost use Rattle.record.specs.Record.{size, blank, whole, capacity, rest, view, put};
 ghost use Rattle.record.specs.Claims.{Claims};
@@ -70,6 +70,17 @@ pub fn capacity(mem: &[u8]) -> usize
     ensures { λ n. ⌜ n ≡ capacity (now (mem .entry)) ⌝ }
 {
     mem.len() / SIZE
+}
+
+// How many of the first n records there are. In a loop up to it the compiler leaves out load's own test.
+pub fn held_count(mem: &[u8], n: usize) -> usize
+    ensures { λ r. ⌜ (r ≡ min n (capacity (now (mem .entry)))) × (r ≤ capacity (now (mem .entry))) × (take r (view (now (mem .entry))) ≡ take n (view (now (mem .entry)))) ⌝ }
+{
+    let all = capacity(mem);
+    if n < all {
+        return n;
+    }
+    all
 }
 
 // Whether every octet after the first n records is 0. Where n is above the capacity there is none, and n * SIZE might not fit.

@@ -11,7 +11,8 @@ use lib.Seq.{drop-append-seam}
 use Rattle.octets.specs.Refusals.{firstOf, answer, outside}
 use Rattle.octets.proofs.Refusals.{by-test, firstOf-zero, answer-accepted, answer-elim, outside-false}
 use Rattle.octets.proofs.Zeros.{zeros-replicate}
-use Rattle.table.specs.Memory.{Channel, sound, read}
+use Rattle.sound.specs.Sound.{Channel, sound}
+use Rattle.table.specs.Memory.{read}
 use Rattle.table.proofs.Looks.{says-look, says-look-unsound}
 use Rattle.search.specs.declared.Query.{Query}
 use Rattle.search.specs.declared.Picked.{Picked}

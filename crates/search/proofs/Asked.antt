@@ -11,7 +11,8 @@ use borrow.Author.Tests.{ltb-false, eq-eqb, ne-eqb}
 use Rattle.octets.specs.Octets.{holdsOnly}
 use Rattle.octets.specs.Refusals.{firstOf}
 use Rattle.octets.proofs.Refusals.{firstOf-append, firstOf-stop, firstOf-zero, outside-false, or-false, answer-refused, answer-accepted}
-use Rattle.table.specs.Memory.{Channel, sound, read}
+use Rattle.sound.specs.Sound.{Channel, sound}
+use Rattle.table.specs.Memory.{read}
 use Rattle.search.specs.declared.Query.{Query}
 use Rattle.search.specs.Search.{statesOf, listed, queryTests, slotTests, refusal, found, searched, listAfter}
 use Rattle.search.specs.Steps.{WellAsked}

@@ -9,7 +9,8 @@ use Rattle.octets.specs.Lists.{has}
 use Rattle.octets.specs.Refusals.{firstOf}
 use Rattle.octets.proofs.Lists.{every-not, every-has, every-from, has-from}
 use Rattle.octets.proofs.Refusals.{firstOf-append, firstOf-is-last}
-use Rattle.table.specs.Memory.{Channel, sound, read}
+use Rattle.sound.specs.Sound.{Channel, sound}
+use Rattle.table.specs.Memory.{read}
 use Rattle.search.specs.declared.Query.{Query}
 use Rattle.search.specs.Search.{qualifies, starts, statesOf, queryTests, slotTests, refusal}
 use Rattle.search.specs.Claims.{NoneWhereRefused, RefusedWhereNone}

@@ -8,9 +8,10 @@ use lib.ListN.{length as len, drop}
 use Rattle.octets.specs.Lists.{has, every}
 use Rattle.octets.specs.Refusals.{firstOf, within}
 use Rattle.octets.specs.Octets.{zeros}
+use Rattle.sound.specs.Sound.{Channel, sound}
 use Rattle.table.specs.declared.Slot.{Slot}
 use Rattle.table.specs.Table.{look}
-use Rattle.table.specs.Memory.{Channel, sound, read, says}
+use Rattle.table.specs.Memory.{read, says}
 use Rattle.search.specs.declared.Query.{Query}
 use Rattle.search.specs.Search.{level0, qualifies, listed, statesOf, queryTests, slotTests, refusal, searched, listAfter, picked, asks, said}
 

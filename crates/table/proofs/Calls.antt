@@ -13,11 +13,12 @@ use Rattle.octets.proofs.Lists.{length-keep-not}
 use Rattle.octets.proofs.Refusals.{firstOf-append, firstOf-stop, firstOf-zero, outside-false, or-false, answer-refused, answer-accepted}
 use Rattle.record.specs.Record.{capacity}
 use Rattle.record.specs.declared.Rec.{Rec}
+use Rattle.sound.specs.Sound.{Channel, records, sound}
+use Rattle.sound.proofs.Sound.{Held, held}
 use Rattle.table.specs.declared.Request.{Request}
 use Rattle.table.specs.Table.{Call, clock, reserve, distance, wipe, look, asked, requestTests, placeTests, tests, changed, reported}
-use Rattle.table.specs.Memory.{Channel, stateOf, records, sound, read, packed, write, refusal, leaves, says, returned}
+use Rattle.table.specs.Memory.{stateOf, read, packed, write, refusal, leaves, says, returned}
 use Rattle.table.specs.Steps.{refused, swept, added, addedMemory}
-use Rattle.table.proofs.Memory.{Held, held}
 
 -- a slot state or a search, which leave all as it was
 abbrev pub isLook : Call → Bool

@@ -6,8 +6,9 @@ use mathlib.Core.Bool.{true, false, not}
 use mathlib.Core.List.{[], _∷_}
 use lib.Dec.{eqb, eqb·suc-zero}
 use Rattle.octets.specs.Refusals.{firstOf, answer}
+use Rattle.sound.specs.Sound.{Channel, sound}
 use Rattle.table.specs.Table.{Table, Said, look}
-use Rattle.table.specs.Memory.{Channel, sound, read, refusal, says}
+use Rattle.table.specs.Memory.{read, refusal, says}
 
 -- a refusal that is given if it is one, and a number that is 0 then
 looked : (r n : ℕ) → ((r ≡ 0 → ⊥) → n ≡ 0) → let g = firstOf ((r, not (eqb r 0)) ∷ []) in (g ≡ r) × (answer g n (λ _. 0) ≡ n)

@@ -1,4 +1,4 @@
--- Loops over the first records of a memory: the records still to come, those that stay moved to the front, each one changed. Assumes nothing.
+-- Loops over the first records of a memory: those that stay moved to the front, each one changed. Assumes nothing.
 use Prim.Native.Nat.{ℕ, suc, _+_, _<_, _≤_}
 use native.Mathlib.Nat.{add-zero}
 use native.Mathlib.Numerals.{add-one}
@@ -6,26 +6,13 @@ use native.Mathlib.Omega.{arith}
 use mathlib.Core.Path.{_≡_, refl, ap, _∙_, sym}
 use mathlib.Core.Bool.{Bool, true, false, cond}
 use mathlib.Core.List.{List, [], _∷_, _++_, map, append-assoc, append-nil}
-use lib.ListN.{length, getD, take, drop, set, length-append, length-take, length-drop, length-map, drop-of-length-le}
-use lib.Seq.{slice, slice-cons, take-suc, drop-cons, getD-at, set-at, length-take-le, getD-drop, drop-drop, drop-set-lt, take-set-le, take-suc-set}
+use lib.ListN.{length, getD, take, drop, set, length-append, length-take, length-drop, length-map}
+use lib.Seq.{take-suc, drop-cons, getD-at, set-at, length-take-le, getD-drop, drop-drop, drop-set-lt, take-set-le, take-suc-set}
 use Rattle.octets.specs.Lists.{keep}
 use Rattle.octets.proofs.Lists.{keep-append, length-keep}
-use Rattle.record.specs.Record.{blank, capacity, view}
+use Rattle.record.specs.Record.{blank}
 use Rattle.record.specs.declared.Rec.{Rec}
-use Rattle.record.proofs.Views.{length-view}
 use Rattle.table.specs.Steps.{sieved, mapped}
-
--- ---- the records still to come
-
--- the records of a memory from i to n
-abbrev pub toCome : ℕ → ℕ → List ℕ → List Rec
-toCome i n m = slice i n (view m)
-
-pub toCome-next : (i n : ℕ) (m : List ℕ) → i < n → n ≤ capacity m → toCome i n m ≡ getD (view m) i blank ∷ toCome (i + 1) n m
-toCome-next i n m h k = rw add-one (slice-cons i n (view m) blank h (rw length-view k))
-
-pub toCome-none : (i n : ℕ) (m : List ℕ) → n ≤ i → toCome i n m ≡ []
-toCome-none i n m h = drop-of-length-le (take n (view m)) {i = i} (omega (arith, length-take n (view m)))
 
 -- ---- the records that pass, counted and moved to the front
 

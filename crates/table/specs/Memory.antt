@@ -1,25 +1,16 @@
--- The table in lent memory with the state beside it: what a sound one is, and what each call answers and leaves.
+-- The table in lent memory with the state beside it: what each call answers and leaves.
 use Prim.Native.Nat.{ℕ, _-_, _*_}
-use mathlib.Core.Bool.{Bool, not, _&&_}
+use mathlib.Core.Bool.{not}
 use mathlib.Core.List.{List, [], _∷_, _++_}
-use lib.Dec.{leb}
-use lib.ListN.{length as len, take, replicate}
-use Rattle.octets.specs.Lists.{every}
-use Rattle.octets.specs.Refusals.{firstOf, answer, within}
-use Rattle.octets.specs.Octets.{zeros}
+use lib.ListN.{length as len, replicate}
+use Rattle.octets.specs.Refusals.{firstOf, answer}
 use Rattle.codec.specs.Parameters as Parameters
-use Rattle.record.specs.Record.{size, capacity, whole, rest, view, image}
+use Rattle.record.specs.Record.{size, capacity, image}
 use Rattle.record.specs.declared.Rec.{Rec}
+use Rattle.sound.specs.Sound.{Channel, records, sizeFits, sound}
 use Rattle.table.specs.declared.State.{State}
 use Rattle.table.specs.declared.Answer.{Answer}
-use Rattle.table.specs.Table.{Table, Said, Call, clock, reserve, distance, wipe, look, good, tests, changed, reported}
-
--- a channel: the state M1, now, count, and the lent octets
-pub record Channel : Type 0 where
-  pub m1 : ℕ
-  pub now : ℕ
-  pub count : ℕ
-  pub memory : List ℕ
+use Rattle.table.specs.Table.{Table, Said, Call, clock, reserve, distance, wipe, look, tests, changed, reported}
 
 -- the channel of a state and the octets lent with it
 abbrev pub channel : State → List ℕ → Channel
@@ -28,28 +19,6 @@ channel s b = record { m1 = s .m1; now = s .now; count = s .count; memory = b }
 -- its state
 abbrev pub stateOf : Channel → State
 stateOf m = record { m1 = m .m1; now = m .now; count = m .count }
-
--- the first count records
-unfoldable pub records : Channel → List Rec
-records m = take (m .count) (view (m .memory))
-
--- ---- a sound table
-
--- a whole number of records, 1 to 2,048
-abbrev pub sizeFits : List ℕ → Bool
-sizeFits b = whole b && within 1 2048 (capacity b)
-
--- memory size right; M1 fits its row; now at most 1,000,000,000; count fits
-unfoldable pub numbersFit : Channel → Bool
-numbersFit m =
-    sizeFits (m .memory)
-    && Parameters.fits 1 (m .m1)
-    && leb (m .now) 1_000_000_000
-    && leb (m .count) (capacity (m .memory))
-
--- and each of the first count records is good; all octets after them are 0
-unfoldable pub sound : Channel → Bool
-sound m = numbersFit m && every (good (m .m1) (m .now)) (records m) && zeros (rest (m .count) (m .memory))
 
 -- ---- records and octets
 

@@ -7,10 +7,11 @@ use Rattle.octets.specs.Lists.{keep, every}
 use Rattle.octets.specs.Refusals.{firstOf, answer}
 use Rattle.record.specs.declared.Rec.{Rec}
 use Rattle.series.specs.Series.{reserves}
+use Rattle.sound.specs.Sound.{Channel, records, sound}
 use Rattle.table.specs.declared.Slot.{Slot}
 use Rattle.table.specs.declared.Slot.the-variants.{Free, Reusable, Taken, Refused}
 use Rattle.table.specs.Table.{Table, Said, timeTests}
-use Rattle.table.specs.Memory.{Channel, records, sound, read}
+use Rattle.table.specs.Memory.{read}
 
 -- a record held as far
 abbrev pub heldFar : Rec → Bool

@@ -1,27 +1,18 @@
 -- What the private functions promise: the code's own steps. Nothing that a caller of the crate has to believe.
-use Prim.Native.Nat.{ℕ, _+_, _-_, _*_, _^_}
+use Prim.Native.Nat.{ℕ, _+_, _-_}
 use mathlib.Core.Bool.{Bool, cond, not, _&&_, _||_}
 use mathlib.Core.List.{List, [], _∷_, _++_, map}
-use lib.Dec.{leb, ltb}
 use lib.ListN.{length as len, getD, take, drop}
 use Rattle.octets.specs.Lists.{keep}
 use Rattle.octets.specs.Refusals.{firstOf, answer}
 use Rattle.record.specs.Record.{blank, capacity}
 use Rattle.record.specs.declared.Rec.{Rec}
-use Rattle.series.specs.Series.{someBelow}
+use Rattle.sound.specs.Sound.{Channel, records, lasts}
 use Rattle.table.specs.declared.Stay.{Stay}
 use Rattle.table.specs.declared.State.{State}
 use Rattle.table.specs.declared.Answer.{Answer}
-use Rattle.table.specs.Table.{of, lasts, placeTests}
-use Rattle.table.specs.Memory.{Channel, stateOf, records, read, packed}
-
--- x is 2^31 over n, rounded up
-abbrev pub isReciprocal : ℕ → ℕ → Bool
-isReciprocal n x = leb (2 ^ 31) (n * x) && ltb (n * x) (2 ^ 31 + n)
-
--- a list that has, at each rate from 1 to 60, its reciprocal
-unfoldable pub areReciprocals : List ℕ → Bool
-areReciprocals xs = not (someBelow 60 (λ k. not (isReciprocal (k + 1) (getD xs (k + 1) 0))))
+use Rattle.table.specs.Table.{of, placeTests}
+use Rattle.table.specs.Memory.{stateOf, read, packed}
 
 -- a record of any station, or of another one only, that is not over at a slot
 unfoldable pub stays : Stay → Rec → Bool

@@ -1,4 +1,4 @@
--- Document 01's table over records: which records are good, and of each call what it is refused for, what it changes, what it reports.
+-- Document 01's table over records: of each call what it is refused for, what it changes, what it reports.
 use Prim.Native.Nat.{ℕ, _+_, _^_}
 use mathlib.Core.Bool.{Bool, cond, not, _&&_, _||_}
 use mathlib.Core.List.{List, [], _∷_, _++_, map}
@@ -6,11 +6,11 @@ use lib.Dec.{leb, ltb, eqb}
 use lib.Ieee.{Float}
 use lib.ListN.{length as len}
 use Rattle.octets.specs.Lists.{keep, has}
-use Rattle.octets.specs.Refusals.{within, outside}
+use Rattle.octets.specs.Refusals.{outside}
 use Rattle.distance.specs.declared.Distance.{Distance}
 use Rattle.distance.specs.Distances.{isFar, limitFits}
 use Rattle.record.specs.declared.Rec.{Rec}
-use Rattle.series.specs.Series.{lastSlot}
+use Rattle.sound.specs.Sound.{lasts}
 use Rattle.table.specs.declared.Request.{Request}
 
 -- M1, now, the capacity, and the records
@@ -32,26 +32,6 @@ pub data Call : Type 0 where
   distance : ℕ → Distance → Float → Call
   wipe : ℕ → Call
   look : (Table → Said) → Call
-
--- ---- a good record
-
--- station below 2^27, first at most 1,000,000,255, rate 1..60, superframes 1..3, length 1..32, far 0 or 1
-unfoldable pub inRange : Rec → Bool
-inRange r =
-    ltb (r .station) (2 ^ 27)
-    && leb (r .first) 1_000_000_255
-    && within 1 60 (r .rate)
-    && within 1 3 (r .superframes)
-    && within 1 32 (r .length)
-    && leb (r .far) 1
-
--- last slot not before now
-unfoldable pub lasts : ℕ → ℕ → Rec → Bool
-lasts m1 now r = leb now (lastSlot m1 r)
-
--- what a sound table asks of each record
-abbrev pub good : ℕ → ℕ → Rec → Bool
-good m1 now r = inRange r && lasts m1 now r
 
 -- ---- what the calls do with records
 

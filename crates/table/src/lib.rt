@@ -1,20 +1,19 @@
-// The reservation table in lent memory: soundness, the calls, and the slot state.
+// The reservation table in lent memory: the calls, and the slot state.
 use distance::Distance;
 use record::Rec;
 ghost use mathlib.Core.Path.{_≡_};
 ghost use mathlib.Core.Bool.{true};
-ghost use Prim.Native.Nat.{_+_, _*_, _/_, _≤_, _<_};
+ghost use Prim.Native.Nat.{_+_, _≤_, _<_};
 ghost use lib.ListN.{length, getD, set, take};
-ghost use Rattle.octets.specs.Lists.{keep, has, every};
-ghost use Rattle.octets.specs.Refusals.{firstOf, within};
-ghost use Rattle.codec.specs.Parameters as Parameters;
+ghost use Rattle.octets.specs.Lists.{keep, has};
+ghost use Rattle.octets.specs.Refusals.{firstOf};
 ghost use Rattle.distance.specs.Distances as Distances;
 ghost use Rattle.record.specs.Record.{view, blank, capacity};
-ghost use Rattle.series.specs.Series.{lastSlot};
-ghost use Rattle.table.specs.Table.{clock, reserve, distance, wipe, inRange, good, bit, same, of, setFar, requestTests};
-ghost use Rattle.table.specs.Memory.{channel, records, sizeFits, numbersFit, sound, packed, leaves, returned, openLeaves, openReturned};
+ghost use Rattle.sound.specs.Sound.{records, sound};
+ghost use Rattle.table.specs.Table.{clock, reserve, distance, wipe, bit, same, of, setFar, requestTests};
+ghost use Rattle.table.specs.Memory.{channel, packed, leaves, returned, openLeaves, openReturned};
 ghost use Rattle.table.specs.Slots.{slotState, slotAnswer};
-ghost use Rattle.table.specs.Steps.{areReciprocals, stays, sieved, mapped, refused, swept, added, addedMemory};
+ghost use Rattle.table.specs.Steps.{stays, sieved, mapped, refused, swept, added, addedMemory};
 
 // What stands beside the lent memory. It travels by value.
 pub struct State {
@@ -60,97 +59,11 @@ struct Stay {
 
 // ---- soundness
 
-fn in_range(lo: u32, hi: u32, x: u32) -> bool
-    ensures { λ b. ⌜ b ≡ within lo hi x ⌝ }
-{
-    let low = x < lo;
-    let high = hi < x;
-    !(low | high)
-}
-
-// The ranges are tested here, and on widened octets: apart from the sum, or as octets, they become vector code, which is slower.
-fn is_good(r: Rec, m1: u32, t: u32, reciprocals: &[u32; 61]) -> bool
-    requires { ⌜ (m1 ≤ 15360) × (areReciprocals (now reciprocals) ≡ true) ⌝ }
-    ensures { λ b. ⌜ b ≡ good m1 t r ⌝ }
-{
-    let station = r.station < 134217728;
-    let first = r.first <= 1000000255;
-    let rate = in_range(1, 60, r.rate as u32);
-    let superframes = in_range(1, 3, r.superframes as u32);
-    let length = in_range(1, 32, r.length as u32);
-    let far = r.far <= 1;
-    if station & first & rate & superframes & length & far {
-        return t <= last_slot(r, m1, reciprocals);
-    }
-    false
-}
-
-// How many of the first n records there are. In a loop up to it the compiler leaves out load's own test.
-fn held_count(mem: &[u8], n: usize) -> usize
-    ensures { λ r. ⌜ (r ≤ capacity (now (mem .entry))) × (take r (view (now (mem .entry))) ≡ take n (view (now (mem .entry)))) ⌝ }
-{
-    let all = record::capacity(mem);
-    if n < all {
-        return n;
-    }
-    all
-}
-
-// Whether all of the first n records are good.
-fn all_good(mem: &[u8], n: usize, m1: u32, t: u32) -> bool
-    requires { ⌜ m1 ≤ 15360 ⌝ }
-    ensures { λ b. ⌜ b ≡ every (good m1 t) (take n (view (now (mem .entry)))) ⌝ }
-{
-    let reciprocals = RECIPROCALS;
-    let held = held_count(mem, n);
-    let mut i = 0;
-    while i < held {
-        if !is_good(record::load(mem, i), m1, t, &reciprocals) {
-            return false;
-        }
-        i += 1;
-    }
-    true
-}
-
-fn m1_fits(m1: u32) -> bool
-    ensures { λ b. ⌜ b ≡ Parameters.fits 1 m1 ⌝ }
-{
-    codec::parameter(1, m1) == 0
-}
-
-fn size_fits(mem: &[u8]) -> bool
-    ensures { λ b. ⌜ b ≡ sizeFits (now (mem .entry)) ⌝ }
-{
-    let whole = record::whole(mem);
-    let n = record::capacity(mem);
-    let few = n < 1;
-    let many = 2048 < n;
-    whole & !(few | many)
-}
-
-fn numbers_fit(s: State, mem: &[u8]) -> bool
-    ensures { λ b. ⌜ b ≡ numbersFit (channel s (now (mem .entry))) ⌝ }
-{
-    let size = size_fits(mem);
-    let m1 = m1_fits(s.m1);
-    let time = s.now <= 1000000000;
-    let n = s.count as usize;
-    let count = n <= record::capacity(mem);
-    size & m1 & time & count
-}
-
 // Whether a table is sound; every call that takes one asks this first.
 pub fn is_sound(s: State, mem: &[u8]) -> bool
     ensures { λ b. ⌜ b ≡ sound (channel s (now (mem .entry))) ⌝ }
 {
-    if numbers_fit(s, mem) {
-        let n = s.count as usize;
-        if all_good(mem, n, s.m1, s.now) {
-            return record::is_clear(mem, n);
-        }
-    }
-    false
+    sound::is_sound(s.m1, s.now, s.count, mem)
 }
 
 // ---- steps of the calls
@@ -192,7 +105,7 @@ fn compact(mem: &mut [u8], n: usize, rule: Stay) -> usize
     ensures kept { λ r. ⌜ r ≡ length (keep (stays rule) (take n (view (now (mem .entry))))) ⌝ }
     ensures front { λ r. ⌜ take r (view (now (mem .exit))) ≡ keep (stays rule) (take n (view (now (mem .entry)))) ⌝ }
 {
-    let held = held_count(mem, n);
+    let held = record::held_count(mem, n);
     let mut i = 0;
     let mut k = 0;
     while i < held {
@@ -240,7 +153,7 @@ fn is_same(x: Rec, r: Rec) -> bool
 fn has_same(mem: &[u8], n: usize, x: Rec) -> bool
     ensures { λ b. ⌜ b ≡ has (same x) (take n (view (now (mem .entry)))) ⌝ }
 {
-    let held = held_count(mem, n);
+    let held = record::held_count(mem, n);
     let mut i = 0;
     while i < held {
         if is_same(x, record::load(mem, i)) {
@@ -346,7 +259,7 @@ fn mark_all(mem: &mut [u8], n: usize, station: u32, far: u8) -> usize
     ensures number { λ r. ⌜ r ≡ length (keep (of station) (take n (view (now (mem .entry))))) ⌝ }
     ensures left { λ _. ⌜ view (now (mem .exit)) ≡ mapped (setFar station far) n (view (now (mem .entry))) ⌝ }
 {
-    let held = held_count(mem, n);
+    let held = record::held_count(mem, n);
     let mut i = 0;
     let mut k = 0;
     while i < held {
@@ -369,8 +282,8 @@ impl State {
             now: 0,
             count: 0,
         };
-        if m1_fits(m1) {
-            if size_fits(mem) {
+        if sound::m1_fits(m1) {
+            if sound::size_fits(mem) {
                 record::clear(mem, 0);
                 return Answer {
                     refusal: 0,
@@ -487,7 +400,7 @@ impl State {
 pub fn judge(s: State, mem: &[u8], slot: u32) -> Slot
     ensures { λ r. ⌜ r ≡ slotState (s .m1) (records (channel s (now (mem .entry)))) slot ⌝ }
 {
-    let held = held_count(mem, s.count as usize);
+    let held = record::held_count(mem, s.count as usize);
     let mut any = false;
     let mut i = 0;
     while i < held {
@@ -520,100 +433,4 @@ pub fn slot_state(s: State, mem: &[u8], slot: u32) -> Slot
         return judge(s, mem, slot);
     }
     Slot::Refused(11)
-}
-
-// ---- a last slot without a division
-
-// At each rate from 1 to 60, 2^31 over the rate, rounded up: a product with it stands for a division by the rate.
-const RECIPROCALS: [u32; 61] = [
-    0,
-    2147483648,
-    1073741824,
-    715827883,
-    536870912,
-    429496730,
-    357913942,
-    306783379,
-    268435456,
-    238609295,
-    214748365,
-    195225787,
-    178956971,
-    165191050,
-    153391690,
-    143165577,
-    134217728,
-    126322568,
-    119304648,
-    113025456,
-    107374183,
-    102261127,
-    97612894,
-    93368855,
-    89478486,
-    85899346,
-    82595525,
-    79536432,
-    76695845,
-    74051161,
-    71582789,
-    69273667,
-    67108864,
-    65075263,
-    63161284,
-    61356676,
-    59652324,
-    58040099,
-    56512728,
-    55063684,
-    53687092,
-    52377650,
-    51130564,
-    49941481,
-    48806447,
-    47721859,
-    46684428,
-    45691142,
-    44739243,
-    43826197,
-    42949673,
-    42107523,
-    41297763,
-    40518560,
-    39768216,
-    39045158,
-    38347923,
-    37675152,
-    37025581,
-    36398028,
-    35791395,
-];
-
-// m1 over a rate, the remainder dropped.
-fn spacing(m1: u32, rate: u32, reciprocals: &[u32; 61]) -> u32
-    requires { ⌜ (m1 ≤ 15360) × (1 ≤ rate) × (rate ≤ 60) × (areReciprocals (now reciprocals) ≡ true) ⌝ }
-    ensures { λ r. ⌜ (r ≡ m1 / rate) × (r ≤ 15360) ⌝ }
-{
-    let i = rate as usize;
-    let x = reciprocals[i];
-    ((m1 as u64) * (x as u64) / 2147483648) as u32
-}
-
-// A product that stays small.
-fn times(n: u32, m: u32) -> u32
-    requires { ⌜ (n ≤ 59) × (m ≤ 15360) ⌝ }
-    ensures { λ r. ⌜ (r ≡ n * m) × (r ≤ 906240) ⌝ }
-{
-    n * m
-}
-
-// As series::last_slot, for a record in range: 32 bits are enough, and nothing is divided.
-fn last_slot(r: Rec, m1: u32, reciprocals: &[u32; 61]) -> u32
-    requires { ⌜ (inRange r ≡ true) × (m1 ≤ 15360) × (areReciprocals (now reciprocals) ≡ true) ⌝ }
-    ensures { λ s. ⌜ s ≡ lastSlot m1 r ⌝ }
-{
-    let rate = r.rate as u32;
-    let superframes = times(r.superframes as u32 - 1, m1);
-    let blocks = times(rate - 1, spacing(m1, rate, reciprocals));
-    r.first + superframes + blocks + r.length as u32 - 1
 }

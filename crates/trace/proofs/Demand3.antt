@@ -11,11 +11,12 @@ use Rattle.octets.specs.Refusals.{answer}
 use Rattle.octets.proofs.Lists.{keep-every, every-sub}
 use Rattle.octets.proofs.Refusals.{answer-refused, by-test, answer-elim}
 use Rattle.record.specs.declared.Rec.{Rec}
+use Rattle.sound.specs.Sound.{Channel, sound, inRange}
+use Rattle.sound.proofs.Ranges.{ranges}
 use Rattle.table.specs.declared.State.{State}
 use Rattle.table.specs.declared.Answer.{Answer}
-use Rattle.table.specs.Table.{Table, Said, Call, clock, reserve, distance, wipe, look, inRange, changed, reported, withRecords}
-use Rattle.table.specs.Memory.{Channel, channel, stateOf, sound, read, write, refusal, acts, leaves, says, returned, openRefusal, opened, openLeaves, openReturned}
-use Rattle.table.proofs.Ranges.{ranges}
+use Rattle.table.specs.Table.{Table, Said, Call, clock, reserve, distance, wipe, look, changed, reported, withRecords}
+use Rattle.table.specs.Memory.{channel, stateOf, read, write, refusal, acts, leaves, says, returned, openRefusal, opened, openLeaves, openReturned}
 use Rattle.table.proofs.Calls.{refusal-sound, refused-leaves}
 use Rattle.trace.specs.Sequences.{runs, logs, is, without, roomy, saidBy, Made, none, made}
 use Rattle.trace.specs.Claims.{WipedWithoutTrace, RealCalls, SoundOpened, SoundKept, NeverUnsound, RefusedChangesNothing, OneResult}

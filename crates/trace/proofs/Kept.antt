@@ -16,8 +16,9 @@ use Rattle.codec.specs.Parameters as Parameters
 use Rattle.distance.specs.Distances.{isFar}
 use Rattle.record.specs.declared.Rec.{Rec}
 use Rattle.series.specs.Series.{lastSlot}
+use Rattle.sound.specs.Sound.{inRange, lasts, good}
 use Rattle.table.specs.declared.Request.{Request}
-use Rattle.table.specs.Table.{Table, Said, Call, clock, reserve, distance, wipe, look, inRange, lasts, good, bit, asked, setFar, of, tests, changed, reported, withRecords}
+use Rattle.table.specs.Table.{Table, Said, Call, clock, reserve, distance, wipe, look, bit, asked, setFar, of, tests, changed, reported, withRecords}
 
 -- ---- the calls on a sound table, over records
 

@@ -4,10 +4,11 @@ use mathlib.Core.Path.{_≡_, refl, sym, ap, _∙_}
 use mathlib.Core.Bool.{true}
 use Rattle.octets.specs.Refusals.{firstOf, answer}
 use Rattle.octets.proofs.Refusals.{by-test}
+use Rattle.sound.specs.Sound.{Channel, sound}
 use Rattle.table.specs.declared.Slot.{Slot}
 use Rattle.table.specs.declared.Slot.the-variants.{Free, Reusable, Taken, Refused}
 use Rattle.table.specs.Table.{Table, timeTests}
-use Rattle.table.specs.Memory.{Channel, sound, read, write}
+use Rattle.table.specs.Memory.{read, write}
 use Rattle.table.specs.Slots.{slotState, slotAnswer, said, asks}
 use Rattle.table.proofs.Looks.{says-look, says-look-unsound}
 use Rattle.trace.specs.Claims.{SlotStateLooks}

@@ -14,8 +14,9 @@ use Rattle.octets.proofs.Lists.{keep-comm, keep-sub, keep-append, keep-map, map
 use Rattle.octets.proofs.Refusals.{firstOf-last, by-test, answer-elim, answer-map}
 use Rattle.distance.specs.Distances.{isFar}
 use Rattle.record.specs.declared.Rec.{Rec}
+use Rattle.sound.specs.Sound.{lasts}
 use Rattle.table.specs.declared.Request.{Request}
-use Rattle.table.specs.Table.{Table, Call, clock, reserve, distance, wipe, look, lasts, bit, asked, same, of, setFar, requestTests, changed, withRecords}
+use Rattle.table.specs.Table.{Table, Call, clock, reserve, distance, wipe, look, bit, asked, same, of, setFar, requestTests, changed, withRecords}
 use Rattle.trace.specs.Sequences.{names, others, without, othersTold, roomy}
 use Rattle.trace.proofs.Kept.{refusalOn, after, after-look, told, run, log, Sound, sound-after}
 

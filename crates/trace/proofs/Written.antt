@@ -17,10 +17,11 @@ use Rattle.codec.specs.Parameters as Parameters
 use Rattle.record.specs.Record.{size, capacity, fields, image, whole, rest, view, FitRec, AllFit}
 use Rattle.record.specs.declared.Rec.{Rec}
 use Rattle.record.proofs.Views.{whole-length, length-image, view-front}
-use Rattle.table.specs.Table.{Table, Call, clock, reserve, distance, wipe, look, inRange, changed}
-use Rattle.table.specs.Memory.{Channel, records, numbersFit, sound, read, packed, write, refusal, acts, leaves, says, sizeFits, openRefusal, opened}
-use Rattle.table.proofs.Ranges.{ranges}
-use Rattle.table.proofs.Memory.{held}
+use Rattle.sound.specs.Sound.{Channel, records, sizeFits, numbersFit, sound, inRange}
+use Rattle.sound.proofs.Sound.{held}
+use Rattle.sound.proofs.Ranges.{ranges}
+use Rattle.table.specs.Table.{Table, Call, clock, reserve, distance, wipe, look, changed}
+use Rattle.table.specs.Memory.{read, packed, write, refusal, acts, leaves, says, openRefusal, opened}
 use Rattle.table.proofs.Calls.{refusal-sound}
 use Rattle.trace.specs.Sequences.{runs, logs}
 use Rattle.trace.proofs.Kept.{refusalOn, after, after-look, told, run, log, Sound, all-in-range, sound-after}

@@ -8,11 +8,12 @@ use Rattle.octets.specs.Lists.{every}
 use Rattle.octets.specs.Refusals.{firstOf}
 use Rattle.distance.specs.declared.Distance.the-variants.{Unknown}
 use Rattle.distance.specs.Distances.{num}
+use Rattle.sound.specs.Sound.{Channel, sound}
 use Rattle.table.specs.declared.State.{State}
 use Rattle.table.specs.declared.Answer.{Answer}
 use Rattle.table.specs.declared.Request.{Request}
 use Rattle.table.specs.Table.{Said, Call, reserve, wipe, look, tests}
-use Rattle.table.specs.Memory.{Channel, channel, sound, read, leaves, says, returned, openRefusal, opened, openLeaves, openReturned}
+use Rattle.table.specs.Memory.{channel, read, leaves, says, returned, openRefusal, opened, openLeaves, openReturned}
 use Rattle.table.specs.Slots.{slotAnswer, said, asks}
 use Rattle.trace.specs.Sequences.{runs, logs, is, without, othersTold, roomy, Made}
 

@@ -5,10 +5,11 @@ use mathlib.Core.Bool.{Bool, true, false, not, _&&_}
 use mathlib.Core.List.{List, [], _∷_}
 use lib.Dec.{eqb}
 use Rattle.octets.specs.Lists.{keep}
+use Rattle.sound.specs.Sound.{Channel}
 use Rattle.table.specs.declared.State.{State}
 use Rattle.table.specs.declared.Answer.{Answer}
 use Rattle.table.specs.Table.{Said, Call, clock, reserve, distance, wipe, look}
-use Rattle.table.specs.Memory.{Channel, channel, leaves, says, returned}
+use Rattle.table.specs.Memory.{channel, leaves, says, returned}
 
 -- what a sequence leaves
 abbrev pub runs : Channel → List Call → Channel

@@ -6,7 +6,8 @@ use mathlib.Core.Bool.{true, false}
 use denote.Ref.{now}
 use lib.ListN.{length}
 use borrow.Author.Needs.{needs}
-use Rattle.table.specs.Memory.{Channel, channel, read, sound}
+use Rattle.sound.specs.Sound.{Channel, sound}
+use Rattle.table.specs.Memory.{channel, read}
 use Rattle.search.specs.declared.Query.{Query}
 use Rattle.search.specs.Search.{statesOf}
 use Rattle.search.specs.Steps.{WellAsked}

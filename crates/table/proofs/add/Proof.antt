@@ -8,10 +8,12 @@ use borrow.Author.Tests.{eq-eqb, ne-eqb}
 use Rattle.octets.specs.Lists.{has}
 use Rattle.octets.proofs.Refusals.{answer-refused, answer-accepted}
 use Rattle.record.specs.Record.{capacity}
+use Rattle.sound.specs.Sound.{records}
+use Rattle.sound.proofs.Sound.{held}
 use Rattle.table.specs.Table.{same}
-use Rattle.table.specs.Memory.{channel, records, read}
+use Rattle.table.specs.Memory.{channel, read}
 use Rattle.table.specs.Steps.{added, addedMemory}
-use Rattle.table.proofs.Memory.{held, packed-end}
+use Rattle.table.proofs.Memory.{packed-end}
 use borrow.Author.Needs.{needs}
 use Rattle.table.proofs.add.Statement.{statement}
 use Rattle.table.proofs.add.Tie as tie

@@ -29,7 +29,7 @@ sift-requires c κs =
     let h = c .before .before in
     let s = h .before .before .before .before in
     let m = now (s .args .mem) in
-    omega (arith, h .before .held-count .ensures .0, same-capacity (h .loop .mem) m (h .loop .inv .1), kept-le (stays (s .args .rule)) (view m) (h .loop .i))
+    omega (arith, h .before .held-count .ensures .1, same-capacity (h .loop .mem) m (h .loop .inv .1), kept-le (stays (s .args .rule)) (view m) (h .loop .i))
 
 add-i : tie.Need-add-i Inv-loop μ-loop
 add-i c = omega arith
@@ -46,7 +46,7 @@ loop-again c =
       omega arith,
       sift .kept .0 ∙ h .loop .inv .1,
       rw (sift .ensures .0, sift .ensures .1)
-          (sifted-next (stays (s .args .rule)) (view m) (view (h .loop .mem)) (h .loop .i) (h .loop .k) (omega (arith, h .before .held-count .ensures .0, length-view m)) (h .loop .inv .2)),
+          (sifted-next (stays (s .args .rule)) (view m) (view (h .loop .mem)) (h .loop .i) (h .loop .k) (omega (arith, h .before .held-count .ensures .1, length-view m)) (h .loop .inv .2)),
     )
 
 same-length : tie.Need-same-length Inv-loop μ-loop
@@ -57,7 +57,7 @@ returns c =
     let h = c .before in
     let n = h .before .held-count in
     let e : n .result ≡ h .loop .i = omega arith in
-    rw (← n .ensures .1, e) (h .loop .inv .2 .0, h .loop .inv .2 .1)
+    rw (← n .ensures .2, e) (h .loop .inv .2 .0, h .loop .inv .2 .1)
 
 pub compact-spec : {M : Type 1} → statement M
 compact-spec =

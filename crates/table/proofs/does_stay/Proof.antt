@@ -1,5 +1,5 @@
 -- `table::does_stay` meets its contract: it computes the definition. Assumes nothing.
-use Rattle.table.specs.Table.{lasts}
+use Rattle.sound.specs.Sound.{lasts}
 use Rattle.table.specs.Steps.{stays}
 use borrow.Author.Needs.{needs}
 use Rattle.table.proofs.does_stay.Statement.{statement}

@@ -8,7 +8,7 @@ use lib.ListN.{take}
 use Rattle.octets.specs.Lists.{has}
 use Rattle.record.specs.Record.{view}
 use Rattle.table.specs.Table.{same}
-use Rattle.table.proofs.Loops.{toCome, toCome-next, toCome-none}
+use Rattle.record.proofs.ToCome.{toCome, toCome-next, toCome-none}
 use Rattle.table.proofs.has_same.Statement.{statement}
 use Rattle.table.proofs.has_same.Tie as tie
 
@@ -22,7 +22,7 @@ held-count-requires : tie.Need-held-count-requires Inv-loop μ-loop
 held-count-requires c κs = search needs
 
 loop-holds : tie.Need-loop-holds Inv-loop μ-loop
-loop-holds c = rw (c .held-count .ensures .1)
+loop-holds c = rw (c .held-count .ensures .2)
 
 load-requires : tie.Need-load-requires Inv-loop μ-loop
 load-requires c κs = search needs
@@ -37,7 +37,7 @@ returns c =
     let n = h .before .held-count in
     rw (
       h .loop .inv,
-      toCome-next (h .loop .i) (n .result) (now (s .args .mem)) (c .before .before .before .loop-test .taken) (n .ensures .0),
+      toCome-next (h .loop .i) (n .result) (now (s .args .mem)) (c .before .before .before .loop-test .taken) (n .ensures .1),
       ← c .before .before .load .ensures,
       ← c .before .is-same .ensures,
       c .if1 .taken,
@@ -56,7 +56,7 @@ loop-again c =
     let n = h .before .held-count in
     rw (
       h .loop .inv,
-      toCome-next (h .loop .i) (n .result) (now (s .args .mem)) (c .before .before .before .loop-test .taken) (n .ensures .0),
+      toCome-next (h .loop .i) (n .result) (now (s .args .mem)) (c .before .before .before .loop-test .taken) (n .ensures .1),
       ← c .before .before .load .ensures,
       ← c .before .is-same .ensures,
       c .if1 .left,

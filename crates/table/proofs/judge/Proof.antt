@@ -6,9 +6,10 @@ use borrow.Author.Needs.{needs}
 use denote.Ref.{now}
 use Rattle.octets.specs.Lists.{keep}
 use Rattle.series.specs.Series.{reserves}
-use Rattle.table.specs.Memory.{channel, records}
+use Rattle.sound.specs.Sound.{records}
+use Rattle.table.specs.Memory.{channel}
 use Rattle.table.specs.Slots.{slotState}
-use Rattle.table.proofs.Loops.{toCome, toCome-next, toCome-none}
+use Rattle.record.proofs.ToCome.{toCome, toCome-next, toCome-none}
 use Rattle.table.proofs.Slots.{judged, judged-start, judged-end, judged-near, judged-next}
 use Rattle.table.proofs.judge.Statement.{statement}
 use Rattle.table.proofs.judge.Tie as tie
@@ -28,7 +29,7 @@ held-count-requires c κs = search needs
 
 loop-holds : tie.Need-loop-holds Inv-loop μ-loop
 unfolding slotState records
-loop-holds c = rw (c .held-count .ensures .1) (judged-start _)
+loop-holds c = rw (c .held-count .ensures .2) (judged-start _)
 
 load-requires : tie.Need-load-requires Inv-loop μ-loop
 load-requires c κs = search needs
@@ -43,7 +44,7 @@ returns c =
     let n = h .before .held-count in
     let load = c .before .before .before .load in
     let near = judged-near (λ r. reserves (a .s .m1) r (a .slot)) (h .loop .any) (load .result) (toCome (h .loop .i + 1) (n .result) (now (a .mem))) in
-    let next = toCome-next (h .loop .i) (n .result) (now (a .mem)) (c .before .before .before .before .loop-test .taken) (n .ensures .0) in
+    let next = toCome-next (h .loop .i) (n .result) (now (a .mem)) (c .before .before .before .before .loop-test .taken) (n .ensures .1) in
     sym (h .loop .inv ∙ rw (next, ← load .ensures) (near (rw (← c .before .before .reserves .ensures) (c .if1 .taken))))
 
 add-i : tie.Need-add-i Inv-loop μ-loop
@@ -60,7 +61,7 @@ loop-again c =
     let load = c .before .before .before .load in
     let holds = c .before .before .reserves .ensures in
     let other = judged-next (λ r. reserves (a .s .m1) r (a .slot)) (h .loop .any) (load .result) (toCome (h .loop .i + 1) (n .result) (now (a .mem))) in
-    let next = toCome-next (h .loop .i) (n .result) (now (a .mem)) (c .before .before .before .before .loop-test .taken) (n .ensures .0) in
+    let next = toCome-next (h .loop .i) (n .result) (now (a .mem)) (c .before .before .before .before .loop-test .taken) (n .ensures .1) in
     h .loop .inv ∙ rw (next, ← load .ensures, holds) (other (rw (← holds) (c .if1 .left)))
 
 returns-2 : tie.Need-returns-2 Inv-loop μ-loop

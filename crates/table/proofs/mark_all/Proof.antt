@@ -1,10 +1,10 @@
 -- `table::mark_all` meets its contract: as far as the loop has come the records are changed and counted. Assumes nothing.
 use Prim.Native.Nat.{_≤_, _<_, _-_}
-use mathlib.Core.Path.{_≡_, refl, ap, _∙_}
+use mathlib.Core.Path.{_≡_, refl, _∙_}
 use native.Mathlib.Omega.{arith}
 use borrow.Author.Needs.{needs}
 use denote.Ref.{now}
-use lib.ListN.{length, take, length-take}
+use lib.ListN.{length, take}
 use Rattle.octets.specs.Lists.{keep}
 use Rattle.record.specs.Record.{view}
 use Rattle.record.proofs.Views.{length-view, same-capacity}
@@ -33,7 +33,7 @@ mark-requires c κs =
     let h = c .before .before in
     let s = h .before .before .before .before in
     let m = now (s .args .mem) in
-    omega (arith, h .before .held-count .ensures .0, same-capacity (h .loop .mem) m (h .loop .inv .1), kept-le (of (s .args .station)) (view m) (h .loop .i))
+    omega (arith, h .before .held-count .ensures .1, same-capacity (h .loop .mem) m (h .loop .inv .1), kept-le (of (s .args .station)) (view m) (h .loop .i))
 
 add-i : tie.Need-add-i Inv-loop μ-loop
 add-i c = omega arith
@@ -50,7 +50,7 @@ loop-again c =
     let f = setFar (s .args .station) (s .args .far) in
     let w = view (h .loop .mem) in
     let i = h .loop .i in
-    let l : i < length vs = omega (arith, h .before .held-count .ensures .0, length-view m) in
+    let l : i < length vs = omega (arith, h .before .held-count .ensures .1, length-view m) in
     let mark = c .before .before .mark in (
       omega arith,
       mark .kept .0 ∙ h .loop .inv .1,
@@ -66,8 +66,7 @@ returns c =
     let h = c .before in
     let s = h .before .before .before .before in
     let n = h .before .held-count in
-    let e : s .args .n ≡ h .loop .i =
-    omega (arith, n .ensures .0, ap length (n .ensures .1), length-view (now (s .args .mem)), length-take (n .result) (view (now (s .args .mem))), length-take (s .args .n) (view (now (s .args .mem)))) in
+    let e : s .args .n ≡ h .loop .i = omega (arith, n .ensures .0) in
     rw e (h .loop .inv .2, h .loop .inv .3)
 
 pub mark-all-spec : {M : Type 1} → statement M

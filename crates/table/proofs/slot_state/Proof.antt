@@ -5,7 +5,8 @@ use mathlib.Core.Bool.{true, false}
 use denote.Ref.{now}
 use borrow.Author.Tests.{lt-ltb, le-ltb}
 use Rattle.octets.proofs.Refusals.{answer-refused, answer-accepted}
-use Rattle.table.specs.Memory.{channel, sound, read}
+use Rattle.sound.specs.Sound.{sound}
+use Rattle.table.specs.Memory.{channel, read}
 use Rattle.table.specs.Slots.{slotAnswer}
 use borrow.Author.Needs.{needs}
 use Rattle.table.proofs.slot_state.Statement.{statement}

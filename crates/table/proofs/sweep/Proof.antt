@@ -6,9 +6,11 @@ use denote.Ref.{now}
 use lib.ListN.{length}
 use Rattle.octets.specs.Lists.{keep}
 use Rattle.record.specs.Record.{capacity}
-use Rattle.table.specs.Memory.{channel, records}
+use Rattle.sound.specs.Sound.{records}
+use Rattle.sound.proofs.Sound.{held}
+use Rattle.table.specs.Memory.{channel}
 use Rattle.table.specs.Steps.{stays}
-use Rattle.table.proofs.Memory.{held, length-kept, packed-front}
+use Rattle.table.proofs.Memory.{length-kept, packed-front}
 use borrow.Author.Needs.{needs}
 use Rattle.table.proofs.sweep.Statement.{statement}
 use Rattle.table.proofs.sweep.Tie as tie

@@ -6,10 +6,11 @@ use denote.Ref.{now}
 use mathlib.Core.Bool.{not}
 use borrow.Author.Tests.{lt-ltb, le-ltb}
 use Rattle.record.specs.declared.Rec.{Rec}
-use Rattle.table.specs.Table.{clock, lasts}
-use Rattle.table.specs.Memory.{channel, sound, refusal, read}
+use Rattle.sound.specs.Sound.{sound, lasts}
+use Rattle.sound.proofs.Sound.{held}
+use Rattle.table.specs.Table.{clock}
+use Rattle.table.specs.Memory.{channel, refusal, read}
 use Rattle.table.specs.Steps.{stays}
-use Rattle.table.proofs.Memory.{held}
 use Rattle.table.proofs.Calls.{refusal-unsound, refusal-sound, refused-gives, sweep-gives}
 use borrow.Author.Needs.{needs}
 use Rattle.table.proofs.State.clock.Statement.{statement}

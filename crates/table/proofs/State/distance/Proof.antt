@@ -6,9 +6,11 @@ use denote.Ref.{now}
 use borrow.Author.Tests.{le-leb, lt-leb}
 use lib.ListN.{length-map}
 use Rattle.distance.specs.Distances.{limitFits}
+use Rattle.sound.specs.Sound.{records, sound}
+use Rattle.sound.proofs.Sound.{held}
 use Rattle.table.specs.Table.{distance, of, setFar}
-use Rattle.table.specs.Memory.{channel, records, sound, refusal, read, write}
-use Rattle.table.proofs.Memory.{held, length-kept, packed-mapped}
+use Rattle.table.specs.Memory.{channel, refusal, read, write}
+use Rattle.table.proofs.Memory.{length-kept, packed-mapped}
 use Rattle.table.proofs.Calls.{refusal-unsound, refusal-sound, refused-gives, accepted-gives}
 use borrow.Author.Needs.{needs}
 use Rattle.table.proofs.State.distance.Statement.{statement}

@@ -9,7 +9,8 @@ use lib.ListN.{length}
 use Rattle.octets.specs.Refusals.{answer}
 use Rattle.codec.specs.Parameters as Parameters
 use Rattle.record.specs.Record.{size}
-use Rattle.table.specs.Memory.{sizeFits, openRefusal, openLeaves, openReturned}
+use Rattle.sound.specs.Sound.{sizeFits}
+use Rattle.table.specs.Memory.{openRefusal, openLeaves, openReturned}
 use borrow.Author.Needs.{needs}
 use Rattle.table.proofs.State.open.Statement.{statement}
 use Rattle.table.proofs.State.open.Tie as tie

@@ -4,9 +4,10 @@ use mathlib.Core.Path.{_≡_, sym, _∙_}
 use mathlib.Core.Bool.{true, false}
 use denote.Ref.{now}
 use Rattle.octets.specs.Refusals.{firstOf}
+use Rattle.sound.specs.Sound.{sound}
+use Rattle.sound.proofs.Sound.{held}
 use Rattle.table.specs.Table.{reserve, requestTests}
-use Rattle.table.specs.Memory.{channel, sound}
-use Rattle.table.proofs.Memory.{held}
+use Rattle.table.specs.Memory.{channel}
 use Rattle.table.proofs.Calls.{refusal-unsound, refused-gives, request-passed, request-refused, request-added}
 use borrow.Author.Needs.{needs}
 use Rattle.table.proofs.State.reserve.Statement.{statement}

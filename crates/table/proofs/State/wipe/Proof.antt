@@ -10,10 +10,11 @@ use Rattle.octets.specs.Lists.{keep}
 use Rattle.record.specs.Record.{capacity}
 use Rattle.record.specs.declared.Rec.{Rec}
 use Rattle.series.specs.Series.{lastSlot}
-use Rattle.table.specs.Table.{wipe, of, lasts}
-use Rattle.table.specs.Memory.{channel, records, sound, refusal, read, packed}
+use Rattle.sound.specs.Sound.{records, sound, lasts}
+use Rattle.sound.proofs.Sound.{held}
+use Rattle.table.specs.Table.{wipe, of}
+use Rattle.table.specs.Memory.{channel, refusal, read, packed}
 use Rattle.table.specs.Steps.{stays, swept}
-use Rattle.table.proofs.Memory.{held}
 use Rattle.table.proofs.Calls.{refusal-unsound, refusal-sound, refused-gives, sweep-gives}
 use borrow.Author.Needs.{needs}
 use Rattle.table.proofs.State.wipe.Statement.{statement}

@@ -1,10 +1,10 @@
--- `table::is_good` meets its contract: the tests are the ranges, and within them the last slot decides. Assumes nothing.
+-- `sound::is_good` meets its contract: the tests are the ranges, and within them the last slot decides. Assumes nothing.
 use mathlib.Core.Path.{_≡_}
 use mathlib.Core.Bool.{true, false}
 use borrow.Author.Needs.{needs}
-use Rattle.table.specs.Table.{inRange, lasts}
-use Rattle.table.proofs.is_good.Statement.{statement}
-use Rattle.table.proofs.is_good.Tie as tie
+use Rattle.sound.specs.Sound.{inRange, lasts}
+use Rattle.sound.proofs.is_good.Statement.{statement}
+use Rattle.sound.proofs.is_good.Tie as tie
 
 cast-in-range : tie.Need-cast-in-range
 cast-in-range c = search needs

@@ -1,4 +1,4 @@
--- `table::all_good` meets its contract: the records still to come say the same as the whole. Assumes nothing.
+-- `sound::all_good` meets its contract: the records still to come say the same as the whole. Assumes nothing.
 use Prim.Native.Nat.{_-_}
 use mathlib.Core.Path.{_≡_, refl}
 use native.Mathlib.Omega.{arith}
@@ -9,11 +9,11 @@ use lib.ListN.{take}
 use Rattle.octets.specs.Lists.{every}
 use Rattle.record.specs.Record.{view}
 use Rattle.series.specs.Series.{someBelow}
-use Rattle.table.specs.Table.{good}
-use Rattle.table.specs.Steps.{areReciprocals}
-use Rattle.table.proofs.Loops.{toCome, toCome-next, toCome-none}
-use Rattle.table.proofs.all_good.Statement.{statement}
-use Rattle.table.proofs.all_good.Tie as tie
+use Rattle.sound.specs.Sound.{good}
+use Rattle.sound.specs.Steps.{areReciprocals}
+use Rattle.record.proofs.ToCome.{toCome, toCome-next, toCome-none}
+use Rattle.sound.proofs.all_good.Statement.{statement}
+use Rattle.sound.proofs.all_good.Tie as tie
 
 abbrev Inv-loop : tie.InvT-loop
 Inv-loop mem n m1 t reciprocals held i₀ i = every (good m1 t) (take n (view mem)) ≡ every (good m1 t) (toCome i held mem)
@@ -25,7 +25,7 @@ held-count-requires : tie.Need-held-count-requires Inv-loop μ-loop
 held-count-requires c κs = search needs
 
 loop-holds : tie.Need-loop-holds Inv-loop μ-loop
-loop-holds c = rw (c .held-count .ensures .1)
+loop-holds c = rw (c .held-count .ensures .2)
 
 load-requires : tie.Need-load-requires Inv-loop μ-loop
 load-requires c κs = search needs
@@ -41,7 +41,7 @@ returns c =
     let n = h .before .held-count in
     rw (
       h .loop .inv,
-      toCome-next (h .loop .i) (n .result) (now (s .args .mem)) (c .before .before .before .before .loop-test .taken) (n .ensures .0),
+      toCome-next (h .loop .i) (n .result) (now (s .args .mem)) (c .before .before .before .before .loop-test .taken) (n .ensures .1),
       ← c .before .before .before .load .ensures,
       ← c .before .is-good .ensures,
       not-true (c .before .is-good .result) (c .if1 .taken),
@@ -60,7 +60,7 @@ loop-again c =
     let n = h .before .held-count in
     rw (
       h .loop .inv,
-      toCome-next (h .loop .i) (n .result) (now (s .args .mem)) (c .before .before .before .before .loop-test .taken) (n .ensures .0),
+      toCome-next (h .loop .i) (n .result) (now (s .args .mem)) (c .before .before .before .before .loop-test .taken) (n .ensures .1),
       ← c .before .before .before .load .ensures,
       ← c .before .is-good .ensures,
       not-false (c .before .is-good .result) (c .if1 .left),

@@ -1,11 +1,11 @@
--- `table::m1_fits` meets its contract: parameter 1 is known, so that only a figure that doesn't fit is refused. Assumes nothing.
+-- `sound::m1_fits` meets its contract: parameter 1 is known, so that only a figure that doesn't fit is refused. Assumes nothing.
 use mathlib.Core.Path.{_≡_, refl}
 use mathlib.Core.Bool.{Bool, true, false, cond, not}
 use lib.Dec.{eqb}
 use borrow.Author.Needs.{needs}
 use Rattle.codec.specs.Parameters.{fits, parameterTests}
-use Rattle.table.proofs.m1_fits.Statement.{statement}
-use Rattle.table.proofs.m1_fits.Tie as tie
+use Rattle.sound.proofs.m1_fits.Statement.{statement}
+use Rattle.sound.proofs.m1_fits.Tie as tie
 
 accepted : (b : Bool) → eqb (cond (not b) 10 0) 0 ≡ b
 accepted true = refl

@@ -1,10 +1,10 @@
--- `table::last_slot` meets its contract: in range, no sum is above 32 bits. Assumes nothing.
+-- `sound::last_slot` meets its contract: in range, no sum is above 32 bits. Assumes nothing.
 use native.Mathlib.Omega.{arith}
 use borrow.Author.Needs.{needs}
 use Rattle.series.specs.Series.{lastSlot}
-use Rattle.table.proofs.Ranges.{ranges}
-use Rattle.table.proofs.last_slot.Statement.{statement}
-use Rattle.table.proofs.last_slot.Tie as tie
+use Rattle.sound.proofs.Ranges.{ranges}
+use Rattle.sound.proofs.last_slot.Statement.{statement}
+use Rattle.sound.proofs.last_slot.Tie as tie
 
 cast-rate : tie.Need-cast-rate
 cast-rate c = search needs

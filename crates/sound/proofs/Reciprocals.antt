@@ -10,7 +10,7 @@ use lib.Dec.{ltb, leb}
 use lib.ListN.{getD}
 use Rattle.series.specs.Series.{someBelow}
 use Rattle.series.proofs.SomeBelow.{someBelow-at}
-use Rattle.table.specs.Steps.{isReciprocal, areReciprocals}
+use Rattle.sound.specs.Steps.{isReciprocal, areReciprocals}
 
 -- the remainder and the rounding together stay below one
 exact : (m d x : ℕ) → m ≤ 15360 → 1 ≤ d → d ≤ 60 → 2147483648 ≤ d * x → d * x < 2147483648 + d → m * x / 2147483648 ≡ m / d

@@ -1,11 +1,11 @@
--- `table::spacing` meets its contract: the product with the reciprocal, over 2^31, is the quotient. Assumes nothing.
+-- `sound::spacing` meets its contract: the product with the reciprocal, over 2^31, is the quotient. Assumes nothing.
 use native.Mathlib.Nat.{div-le-self}
 use native.Mathlib.Omega.{arith}
 use denote.Ref.{now}
 use borrow.Author.Needs.{needs}
-use Rattle.table.proofs.Reciprocals.{reciprocal-most, product-most, product-over}
-use Rattle.table.proofs.spacing.Statement.{statement}
-use Rattle.table.proofs.spacing.Tie as tie
+use Rattle.sound.proofs.Reciprocals.{reciprocal-most, product-most, product-over}
+use Rattle.sound.proofs.spacing.Statement.{statement}
+use Rattle.sound.proofs.spacing.Tie as tie
 
 mul-x : tie.Need-mul-x
 mul-x c = search needs

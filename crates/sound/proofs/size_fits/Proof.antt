@@ -1,7 +1,7 @@
--- `table::size_fits` meets its contract: it computes the definition. Assumes nothing.
+-- `sound::size_fits` meets its contract: it computes the definition. Assumes nothing.
 use borrow.Author.Needs.{needs}
-use Rattle.table.proofs.size_fits.Statement.{statement}
-use Rattle.table.proofs.size_fits.Tie as tie
+use Rattle.sound.proofs.size_fits.Statement.{statement}
+use Rattle.sound.proofs.size_fits.Tie as tie
 
 whole-requires : tie.Need-whole-requires
 whole-requires c κs = search needs

@@ -5,7 +5,7 @@ use mathlib.Core.Bool.{true, and-eq-true-iff}
 use borrow.Author.Tests.{ltb-true, leb-true}
 use Rattle.octets.proofs.Refusals.{within-true}
 use Rattle.record.specs.declared.Rec.{Rec}
-use Rattle.table.specs.Table.{inRange}
+use Rattle.sound.specs.Sound.{inRange}
 
 pub record Ranges (r : Rec) : Type 0 where
   pub station : r .station < 2 ^ 27

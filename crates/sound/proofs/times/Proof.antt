@@ -1,10 +1,10 @@
--- `table::times` meets its contract: both bounds bound the product. Assumes nothing.
+-- `sound::times` meets its contract: both bounds bound the product. Assumes nothing.
 use Prim.Native.Nat.{_*_, _≤_}
 use mathlib.Core.Path.{refl}
 use native.Mathlib.Nat.{mul-le-mul}
 use native.Mathlib.Omega.{arith}
-use Rattle.table.proofs.times.Statement.{statement}
-use Rattle.table.proofs.times.Tie as tie
+use Rattle.sound.proofs.times.Statement.{statement}
+use Rattle.sound.proofs.times.Tie as tie
 
 mul-result : tie.Need-mul-result
 mul-result c =

@@ -1,0 +1,194 @@
+// Whether a table in lent memory is sound.
+use record::Rec;
+ghost use mathlib.Core.Path.{_≡_};
+ghost use mathlib.Core.Bool.{true};
+ghost use Prim.Native.Nat.{_*_, _/_, _≤_};
+ghost use lib.ListN.{take};
+ghost use Rattle.octets.specs.Lists.{every};
+ghost use Rattle.octets.specs.Refusals.{within};
+ghost use Rattle.codec.specs.Parameters as Parameters;
+ghost use Rattle.record.specs.Record.{view};
+ghost use Rattle.series.specs.Series.{lastSlot};
+ghost use Rattle.sound.specs.Sound.{sizeFits, numbersFit, inRange, good, sound};
+ghost use Rattle.sound.specs.Steps.{areReciprocals};
+
+fn in_range(lo: u32, hi: u32, x: u32) -> bool
+    ensures { λ b. ⌜ b ≡ within lo hi x ⌝ }
+{
+    let low = x < lo;
+    let high = hi < x;
+    !(low | high)
+}
+
+// The ranges are tested here, and on widened octets: apart from the sum, or as octets, they become vector code, which is slower.
+fn is_good(r: Rec, m1: u32, t: u32, reciprocals: &[u32; 61]) -> bool
+    requires { ⌜ (m1 ≤ 15360) × (areReciprocals (now reciprocals) ≡ true) ⌝ }
+    ensures { λ b. ⌜ b ≡ good m1 t r ⌝ }
+{
+    let station = r.station < 134217728;
+    let first = r.first <= 1000000255;
+    let rate = in_range(1, 60, r.rate as u32);
+    let superframes = in_range(1, 3, r.superframes as u32);
+    let length = in_range(1, 32, r.length as u32);
+    let far = r.far <= 1;
+    if station & first & rate & superframes & length & far {
+        return t <= last_slot(r, m1, reciprocals);
+    }
+    false
+}
+
+// Whether all of the first n records are good.
+fn all_good(mem: &[u8], n: usize, m1: u32, t: u32) -> bool
+    requires { ⌜ m1 ≤ 15360 ⌝ }
+    ensures { λ b. ⌜ b ≡ every (good m1 t) (take n (view (now (mem .entry)))) ⌝ }
+{
+    let reciprocals = RECIPROCALS;
+    let held = record::held_count(mem, n);
+    let mut i = 0;
+    while i < held {
+        if !is_good(record::load(mem, i), m1, t, &reciprocals) {
+            return false;
+        }
+        i += 1;
+    }
+    true
+}
+
+// Whether M1 fits its row.
+pub fn m1_fits(m1: u32) -> bool
+    ensures { λ b. ⌜ b ≡ Parameters.fits 1 m1 ⌝ }
+{
+    codec::parameter(1, m1) == 0
+}
+
+// Whether a memory is a whole number of records, 1 to 2,048.
+pub fn size_fits(mem: &[u8]) -> bool
+    ensures { λ b. ⌜ b ≡ sizeFits (now (mem .entry)) ⌝ }
+{
+    let whole = record::whole(mem);
+    let n = record::capacity(mem);
+    let few = n < 1;
+    let many = 2048 < n;
+    whole & !(few | many)
+}
+
+// Whether the size and the numbers beside the records fit.
+fn numbers_fit(m1: u32, t: u32, count: u32, mem: &[u8]) -> bool
+    ensures { λ b. ⌜ b ≡ numbersFit (record { m1 = m1; now = t; count = count; memory = now (mem .entry) }) ⌝ }
+{
+    let size = size_fits(mem);
+    let row = m1_fits(m1);
+    let time = t <= 1000000000;
+    let n = count as usize;
+    let room = n <= record::capacity(mem);
+    size & row & time & room
+}
+
+// Whether a table of M1 slots at time t is sound: what stands beside the records fits, they are good, and all after them is 0.
+pub fn is_sound(m1: u32, t: u32, count: u32, mem: &[u8]) -> bool
+    ensures { λ b. ⌜ b ≡ sound (record { m1 = m1; now = t; count = count; memory = now (mem .entry) }) ⌝ }
+{
+    if numbers_fit(m1, t, count, mem) {
+        let n = count as usize;
+        if all_good(mem, n, m1, t) {
+            return record::is_clear(mem, n);
+        }
+    }
+    false
+}
+
+// ---- a last slot without a division
+
+// At each rate from 1 to 60, 2^31 over the rate, rounded up: a product with it stands for a division by the rate.
+const RECIPROCALS: [u32; 61] = [
+    0,
+    2147483648,
+    1073741824,
+    715827883,
+    536870912,
+    429496730,
+    357913942,
+    306783379,
+    268435456,
+    238609295,
+    214748365,
+    195225787,
+    178956971,
+    165191050,
+    153391690,
+    143165577,
+    134217728,
+    126322568,
+    119304648,
+    113025456,
+    107374183,
+    102261127,
+    97612894,
+    93368855,
+    89478486,
+    85899346,
+    82595525,
+    79536432,
+    76695845,
+    74051161,
+    71582789,
+    69273667,
+    67108864,
+    65075263,
+    63161284,
+    61356676,
+    59652324,
+    58040099,
+    56512728,
+    55063684,
+    53687092,
+    52377650,
+    51130564,
+    49941481,
+    48806447,
+    47721859,
+    46684428,
+    45691142,
+    44739243,
+    43826197,
+    42949673,
+    42107523,
+    41297763,
+    40518560,
+    39768216,
+    39045158,
+    38347923,
+    37675152,
+    37025581,
+    36398028,
+    35791395,
+];
+
+// m1 over a rate, the remainder dropped.
+fn spacing(m1: u32, rate: u32, reciprocals: &[u32; 61]) -> u32
+    requires { ⌜ (m1 ≤ 15360) × (1 ≤ rate) × (rate ≤ 60) × (areReciprocals (now reciprocals) ≡ true) ⌝ }
+    ensures { λ r. ⌜ (r ≡ m1 / rate) × (r ≤ 15360) ⌝ }
+{
+    let i = rate as usize;
+    let x = reciprocals[i];
+    ((m1 as u64) * (x as u64) / 2147483648) as u32
+}
+
+// A product that stays small.
+fn times(n: u32, m: u32) -> u32
+    requires { ⌜ (n ≤ 59) × (m ≤ 15360) ⌝ }
+    ensures { λ r. ⌜ (r ≡ n * m) × (r ≤ 906240) ⌝ }
+{
+    n * m
+}
+
+// As series::last_slot, for a record in range: 32 bits are enough, and nothing is divided.
+fn last_slot(r: Rec, m1: u32, reciprocals: &[u32; 61]) -> u32
+    requires { ⌜ (inRange r ≡ true) × (m1 ≤ 15360) × (areReciprocals (now reciprocals) ≡ true) ⌝ }
+    ensures { λ s. ⌜ s ≡ lastSlot m1 r ⌝ }
+{
+    let rate = r.rate as u32;
+    let superframes = times(r.superframes as u32 - 1, m1);
+    let blocks = times(rate - 1, spacing(m1, rate, reciprocals));
+    r.first + superframes + blocks + r.length as u32 - 1
+}
