@@ -12,13 +12,13 @@ use Rattle.search.proofs.wipe.Statement.{statement}
 use Rattle.search.proofs.wipe.Tie as tie
 
 abbrev Inv-loop : tie.InvT-loop
-Inv-loop list₀ place₀ list place = (place ≤ length list₀) × (length list ≡ length list₀) × (list ≡ replicate place 0 ++ drop place list₀)
+Inv-loop list₀ place₀ list place = (list ≡ replicate place 0 ++ drop place list₀) × (place ≤ length list₀) × (length list ≡ length list₀)
 
 abbrev μ-loop : tie.MeasureT-loop
 μ-loop list₀ place₀ list place = length list₀ - place
 
 loop-holds : tie.Need-loop-holds Inv-loop μ-loop
-loop-holds c = (search needs, refl, refl)
+loop-holds c = (refl, search needs, refl)
 
 mul-list : tie.Need-mul-list Inv-loop μ-loop
 mul-list c = search needs
@@ -36,7 +36,7 @@ loop-again : tie.Need-loop-again Inv-loop μ-loop
 loop-again c =
     let h = c .before in
     let o = now (h .before .args .list) in
-    (omega arith, rw length-set (h .loop .inv .1), rw (h .loop .inv .2) (fill-more (h .loop .place) 0 o (omega arith)))
+    (rw (h .loop .inv .0) (fill-more (h .loop .place) 0 o (omega arith)), omega arith, rw length-set (h .loop .inv .2))
 
 same-length : tie.Need-same-length Inv-loop μ-loop
 same-length c = search needs
@@ -46,7 +46,7 @@ returns c =
     let h = c .before in
     let o = now (h .before .args .list) in
     let e : h .loop .place ≡ length o = omega arith in
-    h .loop .inv .2 ∙ rw (e, drop-of-length-le o {i = length o} (omega arith), append-nil, sub-zero)
+    h .loop .inv .0 ∙ rw (e, drop-of-length-le o {i = length o} (omega arith), append-nil, sub-zero)
 
 pub wipe-spec : {M : Type 1} → statement M
 wipe-spec =
