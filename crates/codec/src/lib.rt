@@ -14,7 +14,8 @@ ghost use Rattle.codec.specs.Steps.{Fitting};
 
 // ---- the nine octets
 
-// The fields of a reservation.
+// The fields of a reservation. It and what reading and writing give are laid out as in C: they cross to a C host as they are.
+#[repr(C)]
 pub struct Block {
     pub d: u32,
     pub blg: u32,
@@ -26,12 +27,14 @@ pub struct Block {
 }
 
 // What reading gives: the refusal, 0 for none, and the fields, all 0 where it is refused.
+#[repr(C)]
 pub struct Reading {
     pub refusal: u32,
     pub block: Block,
 }
 
 // What writing gives: the refusal, 0 for none, and the nine octets, all 0 where it is refused.
+#[repr(C)]
 pub struct Writing {
     pub refusal: u32,
     pub octets: [u8; 9],

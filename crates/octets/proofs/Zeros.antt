@@ -1,4 +1,4 @@
--- Laws of `zeros`, and of a loop that writes zeros from a place on: the octets half-way, and `zeroFrom` at its end. Assumes nothing.
+-- Laws of `zeros`, of a loop that writes zeros from a place on (the octets half-way, and `zeroFrom` at its end), and of `holdsOnly`. Assumes nothing.
 use Prim.Native.Nat.{ℕ, zero, suc, _+_, _-_, _<_, _≤_}
 use mathlib.Core.Path.{_≡_, refl, ap, _∙_, sym}
 use mathlib.Core.Bool.{true, and-eq-true-iff}
@@ -9,7 +9,7 @@ use lib.Dec.{eqb}
 use borrow.Author.Tests.{eqb-true}
 use lib.ListN.{length, getD, take, drop, set, replicate, length-append, length-replicate, drop-of-length-le, take-append-drop}
 use lib.Seq.{drop-cons, set-at, length-take-le}
-use Rattle.octets.specs.Octets.{zeros, zeroFrom}
+use Rattle.octets.specs.Octets.{zeros, zeroFrom, holdsOnly}
 
 -- ---- zeros
 
@@ -52,3 +52,14 @@ pub cleared-all : (at i : ℕ) (m w : List ℕ) → length m ≤ i → i - at �
 cleared-all at i m w h k e =
     let s : i - at ≡ length m - at = omega arith in
     e ∙ rw (drop-of-length-le m {i = i} h, append-nil, s)
+
+-- ---- holdsOnly
+
+pub length-holdsOnly : (places : ℕ) (xs : List ℕ) → length xs ≤ places → length (holdsOnly places xs) ≡ places
+length-holdsOnly places xs h = rw (length-append, length-replicate) (omega arith)
+
+-- the first free place is set
+pub set-holdsOnly : (places : ℕ) (xs : List ℕ) (n s : ℕ) → n ≡ length xs → n < places → set (holdsOnly places xs) n s ≡ holdsOnly places (xs ++ (s ∷ []))
+set-holdsOnly places xs n s e h =
+    let k : places - length xs ≡ suc (places - (length xs + 1)) = omega arith in
+    rw (length-append, k, set-at xs 0 (replicate (places - (length xs + 1)) 0) s n (sym e), append-assoc)

@@ -1,26 +1,16 @@
--- Laws of a list that is filled from the front: `holdsOnly` by `put` and `next`. Assumes nothing.
-use Prim.Native.Nat.{ℕ, suc, _+_, _-_, _<_, _≤_}
+-- Laws of a list that is filled from the front, by `put` and `next`. Assumes nothing.
+use Prim.Native.Nat.{ℕ, _+_, _-_, _<_, _≤_}
 use native.Mathlib.Omega.{arith}
 use mathlib.Core.Path.{_≡_, refl, sym, _∙_}
 use mathlib.Core.Bool.{Bool, true, false, cond, _&&_}
-use mathlib.Core.List.{List, [], _∷_, _++_, append-assoc, append-nil}
+use mathlib.Core.List.{List, [], _∷_, _++_, append-nil}
 use lib.Dec.{ltb}
-use lib.ListN.{length, take, set, replicate, length-append, length-take, length-replicate}
-use lib.Seq.{take-append-le, take-all, take-at, take-nil, set-at, length-take-le}
+use lib.ListN.{length, take, set, replicate, length-append, length-take}
+use lib.Seq.{take-append-le, take-all, take-at, take-nil, length-take-le}
 use borrow.Author.Tests.{ltb-true, ltb-false}
 use Rattle.octets.specs.Octets.{holdsOnly}
+use Rattle.octets.proofs.Zeros.{length-holdsOnly, set-holdsOnly}
 use Rattle.search.specs.Steps.{put, next}
-
--- ---- holdsOnly
-
-length-holdsOnly : (places : ℕ) (xs : List ℕ) → length xs ≤ places → length (holdsOnly places xs) ≡ places
-length-holdsOnly places xs h = rw (length-append, length-replicate) (omega arith)
-
--- the first free place is set
-set-holdsOnly : (places : ℕ) (xs : List ℕ) (n s : ℕ) → n ≡ length xs → n < places → set (holdsOnly places xs) n s ≡ holdsOnly places (xs ++ (s ∷ []))
-set-holdsOnly places xs n s e h =
-    let k : places - length xs ≡ suc (places - (length xs + 1)) = omega arith in
-    rw (length-append, k, set-at xs 0 (replicate (places - (length xs + 1)) 0) s n (sym e), append-assoc)
 
 -- ---- a list filled
 

@@ -1,5 +1,5 @@
 -- A slot's state, as the stored series say.
-use Prim.Native.Nat.{ℕ, _+_}
+use Prim.Native.Nat.{ℕ}
 use mathlib.Core.Bool.{Bool, cond, not}
 use mathlib.Core.List.{List, [], _∷_}
 use lib.Dec.{eqb}
@@ -30,14 +30,7 @@ slotState m1 rs slot = stateBy (keep (λ r. reserves m1 r slot) rs)
 unfoldable pub slotAnswer : Channel → ℕ → Slot
 slotAnswer m slot = answer (firstOf ((11, not (sound m)) ∷ timeTests (read m) slot)) (slotState (m .m1) (records m) slot) Refused
 
--- the number over C: 0 free, 1 reusable, 2 taken; refused, 2,000,000,000 plus the refusal's number
-abbrev pub overC : Slot → ℕ
-overC Free = 0
-overC Reusable = 1
-overC Taken = 2
-overC (Refused n) = 2_000_000_000 + n
-
--- the same as an answer: the refusal and the number
+-- a slot's state as an answer: the refusal, and the number 0 free, 1 reusable, 2 taken
 abbrev pub said : Slot → Said
 said Free = record { refusal = 0; number = 0 }
 said Reusable = record { refusal = 0; number = 1 }

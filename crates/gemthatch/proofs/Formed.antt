@@ -1,0 +1,148 @@
+-- The state that a host forms from an answer over C, and how it tells a refusal. Assumes nothing.
+use Prim.Native.Nat.{ℕ, _+_, _-_, _≤_, zero-le}
+use native.Mathlib.Omega.{arith}
+use mathlib.Core.Path.{_≡_, refl, sym, ap, _∙_}
+use mathlib.Core.Bool.{Bool, true, false, cond, not, false≢true}
+use mathlib.Core.List.{List}
+use lib.Dec.{leb, eqb}
+use lib.ListN.{length as len, length-append, length-map}
+use borrow.Author.Tests.{eqb-true, eqb-false, le-leb, lt-leb}
+use Rattle.octets.specs.Lists.{keep}
+use Rattle.octets.specs.Refusals.{answer}
+use Rattle.octets.proofs.Lists.{length-keep-not}
+use Rattle.octets.proofs.Refusals.{answer-elim, answer-refused, answer-accepted, by-test}
+use Rattle.record.specs.declared.Rec.{Rec}
+use Rattle.sound.specs.Sound.{Channel, records, lasts, sound}
+use Rattle.sound.proofs.Sound.{Held, held}
+use Rattle.table.specs.declared.State.{State}
+use Rattle.table.specs.Table.{Call, clock, reserve, distance, wipe, look, of, changed, reported}
+use Rattle.table.specs.Memory.{channel, stateOf, read, write, refusal, leaves, says, returned, openRefusal, opened, openLeaves, openReturned}
+use Rattle.table.proofs.Calls.{isLook, refusal-unsound, refused-gives, accepted-gives}
+use Rattle.table.proofs.Memory.{length-kept}
+use Rattle.search.specs.Search.{searched}
+use Rattle.gemthatch.specs.OverC.{overC, called}
+use Rattle.gemthatch.specs.Claims.{changes, moved, formed, formedByOpen, refusalIn, StateFormed, StateOpened, RefusalTold, ReportedSmall, FoundSmall}
+use Rattle.gemthatch.proofs.Most.{returned-called}
+use Rattle.gemthatch.proofs.Places.{found-fits}
+
+-- ---- overC
+
+-- an accepted number stands below 2,000,000,000, a refusal above
+overC-accepted : (number : ℕ) → overC 0 number ≡ number
+unfolding overC answer
+overC-accepted number = refl
+
+overC-refused : (refusal number : ℕ) → (refusal ≡ 0 → ⊥) → overC refusal number ≡ 2_000_000_000 + refusal
+unfolding overC
+overC-refused refusal number h = sym (answer-refused number (λ n. 2_000_000_000 + n) {n = refusal} refl h)
+
+pub refusal-told : RefusalTold
+refusal-told refusal number h = by-test (eqb refusal 0) accepted refused
+  where
+    accepted : eqb refusal 0 ≡ true → refusalIn (overC refusal number) ≡ refusal
+    accepted z =
+        let e = eqb-true refusal 0 z in
+        rw (e, overC-accepted number, lt-leb 2_000_000_000 number h)
+
+    refused : eqb refusal 0 ≡ false → refusalIn (overC refusal number) ≡ refusal
+    refused z = rw (overC-refused refusal number (eqb-false refusal 0 z), le-leb 2_000_000_000 (2_000_000_000 + refusal) (omega arith)) (omega arith)
+
+-- ---- numbers are small
+
+-- a call that is not refused was made on a sound table
+accepted-held : (m : Channel) (c : Call) → refusal m c ≡ 0 → Held m
+accepted-held m c z =
+    by-test (sound m)
+    (λ h. held m h)
+    (λ h. let e : 11 ≡ 0 = refusal-unsound m c h ∙ z in absurd (omega arith))
+
+reported-most : (m : Channel) (c : Call) → changes c ≡ true → Held m → reported (read m) c ≤ 2048
+unfolding read
+reported-most m (clock slot) h k = omega (arith, length-kept m k (λ r. not (lasts (m .m1) slot r)), k .room, k .capacity-most)
+reported-most m (reserve q) h k = zero-le
+reported-most m (distance s d limit) h k = omega (arith, length-kept m k (of s), k .room, k .capacity-most)
+reported-most m (wipe s) h k = omega (arith, length-kept m k (of s), k .room, k .capacity-most)
+reported-most m (look f) h k = absurd (false≢true h)
+
+pub reported-small : ReportedSmall
+unfolding says
+reported-small m c h = answer-elim (reported (read m) c) (λ _. 0) (λ n. n ≤ 2048) (refusal m c) (λ z. reported-most m c h (accepted-held m c z)) (λ _. zero-le)
+
+pub found-small : FoundSmall
+unfolding searched
+found-small m q places = found-fits m q places .1
+
+-- ---- the state formed
+
+module _ (s : State) (b : List ℕ) where
+  abbrev given : Channel
+  given = channel s b
+
+  -- by what an accepted call reports
+  moved-written : (c : Call) → changes c ≡ true → Held given → moved s c (reported (read given) c) ≡ stateOf (write (changed (read given) c))
+  unfolding read write
+  moved-written (clock slot) h k =
+      let live = lasts (s .m1) slot in
+      let e : s .count - len (keep (λ r. not (live r)) (records given)) ≡ len (keep live (records given)) =
+      omega (arith, k .counted, length-keep-not live (λ r. not (live r)) (λ r. refl) (records given)) in
+      rw e
+  moved-written (reserve q) h k = rw (length-append, k .counted)
+  moved-written (distance station d limit) h k = rw (length-map, k .counted)
+  moved-written (wipe station) h k =
+      let others : Rec → Bool = λ r. not (of station r) in
+      let e : s .count - len (keep (of station) (records given)) ≡ len (keep others (records given)) =
+      omega (arith, k .counted, length-keep-not (of station) others (λ r. refl) (records given)) in
+      rw e
+  moved-written (look f) h k = absurd (false≢true h)
+
+  formed-made : (c : Call) → changes c ≡ true → isLook c ≡ false → formed s c (called given c) ≡ returned given c .state
+  formed-made c h n = by-test (eqb (refusal given c) 0) accepted refused
+    where
+      accepted : eqb (refusal given c) 0 ≡ true → formed s c (called given c) ≡ returned given c .state
+      accepted t =
+          let z = eqb-true (refusal given c) 0 t in
+          let k = accepted-held given c z in
+          let x = reported (read given) c in
+          let g = accepted-gives given c (sym z) n .0 in
+          let e : called given c ≡ x = sym (returned-called _ given c g) ∙ overC-accepted x in
+          rw (e, lt-leb 2_000_000_000 x (omega (arith, reported-most given c h k)), ← g) (moved-written c h k)
+
+      refused : eqb (refusal given c) 0 ≡ false → formed s c (called given c) ≡ returned given c .state
+      refused t =
+          let r = refusal given c in
+          let z = eqb-false r 0 t in
+          let g = refused-gives given c r refl z .0 in
+          let e : called given c ≡ 2_000_000_000 + r = sym (returned-called _ given c g) ∙ overC-refused r 0 z in
+          rw (e, le-leb 2_000_000_000 (2_000_000_000 + r) (omega arith), ← g)
+
+pub state-formed : StateFormed
+unfolding returned leaves
+state-formed s b (clock slot) = formed-made s b (clock slot) refl refl
+state-formed s b (reserve q) = formed-made s b (reserve q) refl refl
+state-formed s b (distance station d limit) = formed-made s b (distance station d limit) refl refl
+state-formed s b (wipe station) = formed-made s b (wipe station) refl refl
+state-formed s b (look f) = go (leb 2_000_000_000 (called (channel s b) (look f)))
+  where
+    go : (t : Bool) → cond t s s ≡ s
+    go true = refl
+    go false = refl
+
+-- what a refused opening leaves
+abbrev shut : List ℕ → Channel
+shut b = record { m1 = 0; now = 0; count = 0; memory = b }
+
+pub state-opened : StateOpened
+unfolding openReturned openLeaves
+state-opened m1 b = by-test (eqb (openRefusal m1 b) 0) accepted refused
+  where
+    accepted : eqb (openRefusal m1 b) 0 ≡ true → formedByOpen m1 (overC (openRefusal m1 b) 0) ≡ stateOf (openLeaves m1 b)
+    accepted t =
+        let z = eqb-true (openRefusal m1 b) 0 t in
+        let e = answer-accepted (opened m1 b) (λ _. shut b) {m = 0} refl in
+        rw (z, overC-accepted 0) (ap stateOf e)
+
+    refused : eqb (openRefusal m1 b) 0 ≡ false → formedByOpen m1 (overC (openRefusal m1 b) 0) ≡ stateOf (openLeaves m1 b)
+    refused t =
+        let z = eqb-false (openRefusal m1 b) 0 t in
+        let e = answer-refused (opened m1 b) (λ _. shut b) {n = openRefusal m1 b} refl z in
+        rw (overC-refused (openRefusal m1 b) 0 z, le-leb 2_000_000_000 (2_000_000_000 + openRefusal m1 b) (omega arith)) (ap stateOf e)

@@ -1,0 +1,4 @@
+pub mod Most
+pub mod Put
+pub mod Places
+pub mod Formed

@@ -1,0 +1,17 @@
+-- `gemthatch::claims` promises what the laws prove. Assumes nothing.
+use Rattle.gemthatch.proofs.Formed.{state-formed, state-opened, refusal-told, reported-small, found-small}
+use Rattle.gemthatch.proofs.claims.Statement.{statement}
+use Rattle.gemthatch.proofs.claims.Tie as tie
+
+returns : tie.Need-returns
+returns c =
+    record {
+      state-formed = state-formed;
+      state-opened = state-opened;
+      refusal-told = refusal-told;
+      reported-small = reported-small;
+      found-small = found-small;
+    }
+
+pub claims-spec : {M : Type 1} → statement M
+claims-spec = tie.close (tie.spec returns)

@@ -1,0 +1,64 @@
+-- `gemthatch::gemthatch_reserve` meets its contract: what the table's reserve answers, as one number. Assumes nothing.
+use mathlib.Core.Path.{refl, ap, _∙_}
+use denote.Ref.{now}
+use borrow.Author.Needs.{needs}
+use Rattle.distance.specs.declared.Distance.{Distance}
+use Rattle.sound.specs.Sound.{Channel}
+use Rattle.table.specs.Table.{Call, reserve}
+use Rattle.table.specs.Memory.{leaves}
+use Rattle.gemthatch.specs.OverC.{lent, called}
+use Rattle.gemthatch.proofs.Most.{returned-most, returned-called}
+use Rattle.gemthatch.proofs.gemthatch_reserve.Statement.{statement}
+use Rattle.gemthatch.proofs.gemthatch_reserve.Tie as tie
+
+-- ---- what is known at a place
+
+module _ (c : tie.After-distance-of) where
+  abbrev given : Channel
+  given = lent (c .before .before .args .m1) (c .before .before .args .time) (c .before .before .args .count) (now (c .before .before .args .memory))
+
+  -- the call, by its distance
+  abbrev call : Distance → Call
+  call d =
+      reserve
+      (record {
+        station = c .before .before .args .station;
+        rate = c .before .before .args .rate;
+        superframes = c .before .before .args .superframes;
+        bs = c .before .before .args .bs;
+        length = c .before .before .args .length;
+        distance = d;
+        limit = c .before .before .args .limit;
+      })
+
+-- ---- the needs
+
+distance-of-requires : tie.Need-distance-of-requires
+distance-of-requires c κs = search needs
+
+reserve-requires : tie.Need-reserve-requires
+reserve-requires c κs = search needs
+
+over-c-requires : tie.Need-over-c-requires
+over-c-requires c κs =
+    let x = c .before .before .before .before in
+    let k = c .before .before .reserve in
+    returned-most (k .result) (given x) (call x (x .distance-of .result)) (k .ensures .0) refl
+
+same-length : tie.Need-same-length
+same-length c = search needs
+
+returns : tie.Need-returns
+returns c =
+    let x = c .before .before .before .before .before in
+    let k = c .before .before .before .reserve in
+    let e = x .distance-of .ensures in (
+      c .over-c .ensures
+          ∙ returned-called (k .result) (given x) (call x (x .distance-of .result)) (k .ensures .0)
+          ∙ ap (λ d. called (given x) (call x d)) e,
+      k .ensures .1 ∙ ap (λ d. leaves (given x) (call x d) .memory) e,
+    )
+
+pub gemthatch-reserve-spec : {M : Type 1} → statement M
+gemthatch-reserve-spec =
+    tie.close (tie.spec distance-of-requires reserve-requires over-c-requires same-length returns)

@@ -1,0 +1,72 @@
+-- What is claimed of the answers over C, besides each function's promise. `claims` in src/lib.rt promises all of it.
+use Prim.Native.Nat.{ℕ, _+_, _-_, _<_, _≤_}
+use mathlib.Core.Path.{_≡_}
+use mathlib.Core.Bool.{Bool, true, false, cond}
+use mathlib.Core.List.{List}
+use lib.Dec.{leb}
+use Rattle.sound.specs.Sound.{Channel}
+use Rattle.table.specs.declared.State.{State}
+use Rattle.table.specs.Table.{Call, clock, reserve, distance, wipe, look}
+use Rattle.table.specs.Memory.{channel, says, returned, openRefusal, openReturned}
+use Rattle.search.specs.declared.Query.{Query}
+use Rattle.search.specs.Search.{searched}
+use Rattle.gemthatch.specs.OverC.{overC, called}
+
+-- ---- what the host makes of a number
+
+-- its refusal: 0 below 2,000,000,000
+abbrev pub refusalIn : ℕ → ℕ
+refusalIn x = cond (leb 2_000_000_000 x) (x - 2_000_000_000) 0
+
+-- a clock, reserve, distance or wipe
+abbrev pub changes : Call → Bool
+changes (clock slot) = true
+changes (reserve q) = true
+changes (distance station d limit) = true
+changes (wipe station) = true
+changes (look f) = false
+
+-- the state that an accepted call leaves, formed from the number it returned
+abbrev pub moved : State → Call → ℕ → State
+moved s (clock slot) x = record { m1 = s .m1; now = slot; count = s .count - x }
+moved s (reserve q) x = record { m1 = s .m1; now = s .now; count = s .count + 1 }
+moved s (distance station d limit) x = s
+moved s (wipe station) x = record { m1 = s .m1; now = s .now; count = s .count - x }
+moved s (look f) x = s
+
+-- the next state: as it was where the call was refused
+abbrev pub formed : State → Call → ℕ → State
+formed s c x = cond (leb 2_000_000_000 x) s (moved s c x)
+
+-- after an opening: M1, 0, 0, and all 0 where it was refused
+abbrev pub formedByOpen : ℕ → ℕ → State
+formedByOpen m1 x = cond (leb 2_000_000_000 x) (record { m1 = 0; now = 0; count = 0 }) (record { m1 = m1; now = 0; count = 0 })
+
+-- ---- the claims
+
+-- the state that the host forms from an answer is the state that the method hands back
+abbrev pub StateFormed : Type 0
+StateFormed = (s : State) (b : List ℕ) (c : Call) → formed s c (called (channel s b) c) ≡ returned (channel s b) c .state
+
+-- and so it is after an opening
+abbrev pub StateOpened : Type 0
+StateOpened = (m1 : ℕ) (b : List ℕ) → formedByOpen m1 (overC (openRefusal m1 b) 0) ≡ openReturned m1 b .state
+
+-- a number below 2,000,000,000 is never taken for a refusal, and every refusal is told
+abbrev pub RefusalTold : Type 0
+RefusalTold = (refusal number : ℕ) → number < 2_000_000_000 → refusalIn (overC refusal number) ≡ refusal
+
+-- a call reports at most the 2,048 records of a table
+abbrev pub ReportedSmall : Type 0
+ReportedSmall = (m : Channel) (c : Call) → changes c ≡ true → says m c .number ≤ 2048
+
+-- a search finds at most 16 starts
+abbrev pub FoundSmall : Type 0
+FoundSmall = (m : Channel) (q : Query) (places : ℕ) → searched m q places .number ≤ 16
+
+pub record Claims : Type 0 where
+  pub state-formed : StateFormed
+  pub state-opened : StateOpened
+  pub refusal-told : RefusalTold
+  pub reported-small : ReportedSmall
+  pub found-small : FoundSmall

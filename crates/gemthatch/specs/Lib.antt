@@ -1,0 +1,2 @@
+pub mod OverC
+pub mod Claims

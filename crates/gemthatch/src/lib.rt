@@ -1,0 +1,308 @@
+// What a C host calls, and nothing else: each call hands its numbers and octets to the crate that does the work, and its answer back as
+// one number. include/gemthatch.h is the manual.
+use codec::Block;
+use codec::Reading;
+use codec::Writing;
+use search::Found;
+use search::Query;
+use table::Request;
+use table::Slot;
+use table::State;
+ghost use mathlib.Core.Path.{_≡_};
+ghost use mathlib.Core.List.{[], _++_};
+ghost use Prim.Native.Nat.{_+_, _*_, _≤_};
+ghost use lib.ListN.{length, length as len, take};
+ghost use Rattle.octets.specs.Octets.{little, holdsOnly};
+ghost use Rattle.octets.specs.Refusals.{firstOf};
+ghost use Rattle.codec.specs.NineOctets.{reading, writing};
+ghost use Rattle.codec.specs.Rates.{rateFound};
+ghost use Rattle.codec.specs.Parameters.{parameterTests};
+ghost use Rattle.distance.specs.Distances.{distanceOf};
+ghost use Rattle.table.specs.Table.{clock, reserve, distance, wipe};
+ghost use Rattle.table.specs.Memory.{channel, leaves, openRefusal, openLeaves};
+ghost use Rattle.search.specs.Search.{found, searched, picked};
+ghost use Rattle.gemthatch.specs.OverC.{overC, lent, request, query, called, slotNumber, searchNumber, inOctets, searchList};
+ghost use Rattle.gemthatch.specs.Claims.{Claims};
+
+// ---- answers and lists as C has them
+
+// The one number of an answer.
+fn over_c(refusal: u32, number: u32) -> u32
+    requires { ⌜ refusal ≤ 22 ⌝ }
+    ensures { λ r. ⌜ r ≡ overC refusal number ⌝ }
+{
+    if refusal == 0 {
+        return number;
+    }
+    2000000000 + refusal
+}
+
+// Puts one number behind those that a wiped list holds already.
+fn put_number(list: &mut [u8], at: usize, x: u32)
+    requires { ⌜ at + 4 ≤ length (now list) ⌝ }
+    requires { ⌜ now list ≡ holdsOnly (length (now list)) (take at (now list)) ⌝ }
+    ensures { λ _. ⌜ now (list .exit) ≡ holdsOnly (length (now (list .entry))) (take at (now (list .entry)) ++ little 4 x) ⌝ }
+{
+    let o = octets::split(x);
+    list[at] = o[0];
+    list[at + 1] = o[1];
+    list[at + 2] = o[2];
+    list[at + 3] = o[3];
+}
+
+// Puts the first n numbers into a wiped list, four octets to each.
+fn put_numbers(list: &mut [u8], numbers: &[u32], n: usize)
+    requires { ⌜ (n ≤ length (now numbers)) × (n * 4 ≤ length (now list)) ⌝ }
+    requires { ⌜ now list ≡ holdsOnly (length (now list)) [] ⌝ }
+    ensures { λ _. ⌜ now (list .exit) ≡ holdsOnly (length (now (list .entry))) (inOctets (take n (now (numbers .entry)))) ⌝ }
+{
+    let mut i = 0;
+    while i < n {
+        put_number(list, i * 4, numbers[i]);
+        i += 1;
+    }
+}
+
+// A search with a list of so many places. It never fills more than 16, so a longer list is as good as one of 16.
+fn search_places(s: State, memory: &[u8], q: Query, starts: &mut [u32], places: usize) -> Found
+    requires { ⌜ 16 ≤ length (now starts) ⌝ }
+    ensures answer { λ r. ⌜ r ≡ searched (channel s (now (memory .entry))) q places ⌝ }
+    ensures starts { λ r. ⌜ take (r .number) (now (starts .exit)) ≡ found (channel s (now (memory .entry))) q places ⌝ }
+{
+    if places < starts.len() {
+        return search::search(s, memory, q, &mut starts[..places]);
+    }
+    search::search(s, memory, q, starts)
+}
+
+// ---- the nine octets, the rates, the parameters
+
+// Reads a reservation. Refused, in this order: 1, 2, 3, 4, 5, 6.
+#[no_mangle]
+pub extern "C" fn gemthatch_read(octets: &[u8]) -> Reading
+    ensures { λ r. ⌜ r ≡ reading (now (octets .entry)) ⌝ }
+{
+    codec::read(octets)
+}
+
+// Writes a reservation. Refused, in this order: 8, 9, 3, 4, 5, 6.
+#[no_mangle]
+pub extern "C" fn gemthatch_write(block: Block) -> Writing
+    ensures { λ r. ⌜ r ≡ writing block ⌝ }
+{
+    codec::write(block)
+}
+
+// The rate that a code stands for. Refused, in this order: 7, 3.
+#[no_mangle]
+pub extern "C" fn gemthatch_rate(rates: &[u8], code: u32) -> u32
+    ensures { λ r. ⌜ r ≡ overC (rateFound (now (rates .entry)) code .refusal) (rateFound (now (rates .entry)) code .number) ⌝ }
+{
+    let f = codec::rate(rates, code);
+    over_c(f.refusal, f.number)
+}
+
+// 0 where a figure fits its parameter. Refused, in this order: 22, 10.
+#[no_mangle]
+pub extern "C" fn gemthatch_parameter(number: u32, figure: u32) -> u32
+    ensures { λ r. ⌜ r ≡ overC (firstOf (parameterTests number figure)) 0 ⌝ }
+{
+    let refusal = codec::parameter(number, figure);
+    over_c(refusal, 0)
+}
+
+// ---- the table
+
+// Opens a table of M1 slots in lent memory. Refused, in this order: 10, 1.
+#[no_mangle]
+pub extern "C" fn gemthatch_open(memory: &mut [u8], m1: u32) -> u32
+    ensures answer { λ r. ⌜ r ≡ overC (openRefusal m1 (now (memory .entry))) 0 ⌝ }
+    ensures memory { λ _. ⌜ now (memory .exit) ≡ openLeaves m1 (now (memory .entry)) .memory ⌝ }
+{
+    let a = State::open(memory, m1);
+    over_c(a.refusal, a.number)
+}
+
+// Sets the time, drops the records that are over, reports how many. Refused, in this order: 11, 12, 13.
+#[no_mangle]
+pub extern "C" fn gemthatch_clock(
+    memory: &mut [u8],
+    m1: u32,
+    time: u32,
+    count: u32,
+    slot: u32,
+) -> u32
+    ensures answer { λ r. ⌜ r ≡ called (lent m1 time count (now (memory .entry))) (clock slot) ⌝ }
+    ensures memory { λ _. ⌜ now (memory .exit) ≡ leaves (lent m1 time count (now (memory .entry))) (clock slot) .memory ⌝ }
+{
+    let s = State {
+        m1,
+        now: time,
+        count,
+    };
+    let a = s.clock(memory, slot);
+    over_c(a.refusal, a.number)
+}
+
+// Adds one record at the end. Refused, in this order: 11, 8, 14, 15, 9, 5, 18, 16, 17.
+#[no_mangle]
+pub extern "C" fn gemthatch_reserve(
+    memory: &mut [u8],
+    m1: u32,
+    time: u32,
+    count: u32,
+    station: u32,
+    rate: u32,
+    superframes: u32,
+    bs: u32,
+    length: u32,
+    kind: u32,
+    a: f64,
+    b: f64,
+    limit: f64,
+) -> u32
+    ensures answer { λ r. ⌜ r ≡ called (lent m1 time count (now (memory .entry))) (reserve (request station rate superframes bs length kind a b limit)) ⌝ }
+    ensures memory { λ _. ⌜ now (memory .exit) ≡ leaves (lent m1 time count (now (memory .entry))) (reserve (request station rate superframes bs length kind a b limit)) .memory ⌝ }
+{
+    let s = State {
+        m1,
+        now: time,
+        count,
+    };
+    let d = distance::distance_of(kind, a, b);
+    let q = Request {
+        station,
+        rate,
+        superframes,
+        bs,
+        length,
+        distance: d,
+        limit,
+    };
+    let r = s.reserve(memory, q);
+    over_c(r.refusal, r.number)
+}
+
+// Rewrites far in all the station's records, reports how many it has. Refused, in this order: 11, 8, 18.
+#[no_mangle]
+pub extern "C" fn gemthatch_distance(
+    memory: &mut [u8],
+    m1: u32,
+    time: u32,
+    count: u32,
+    station: u32,
+    kind: u32,
+    a: f64,
+    b: f64,
+    limit: f64,
+) -> u32
+    ensures answer { λ r. ⌜ r ≡ called (lent m1 time count (now (memory .entry))) (distance station (distanceOf kind a b) limit) ⌝ }
+    ensures memory { λ _. ⌜ now (memory .exit) ≡ leaves (lent m1 time count (now (memory .entry))) (distance station (distanceOf kind a b) limit) .memory ⌝ }
+{
+    let s = State {
+        m1,
+        now: time,
+        count,
+    };
+    let d = distance::distance_of(kind, a, b);
+    let r = s.distance(memory, station, d, limit);
+    over_c(r.refusal, r.number)
+}
+
+// Removes the station's records, reports how many. Refused, in this order: 11, 8.
+#[no_mangle]
+pub extern "C" fn gemthatch_wipe(
+    memory: &mut [u8],
+    m1: u32,
+    time: u32,
+    count: u32,
+    station: u32,
+) -> u32
+    ensures answer { λ r. ⌜ r ≡ called (lent m1 time count (now (memory .entry))) (wipe station) ⌝ }
+    ensures memory { λ _. ⌜ now (memory .exit) ≡ leaves (lent m1 time count (now (memory .entry))) (wipe station) .memory ⌝ }
+{
+    let s = State {
+        m1,
+        now: time,
+        count,
+    };
+    let a = s.wipe(memory, station);
+    over_c(a.refusal, a.number)
+}
+
+// ---- slots
+
+// The slot state: 0 free, 1 reusable, 2 taken. Refused, in this order: 11, 12, 13.
+#[no_mangle]
+pub extern "C" fn gemthatch_slot_state(
+    memory: &[u8],
+    m1: u32,
+    time: u32,
+    count: u32,
+    slot: u32,
+) -> u32
+    ensures { λ r. ⌜ r ≡ slotNumber (lent m1 time count (now (memory .entry))) slot ⌝ }
+{
+    let s = State {
+        m1,
+        now: time,
+        count,
+    };
+    match table::slot_state(s, memory, slot) {
+        Slot::Free => 0,
+        Slot::Reusable => 1,
+        Slot::Taken => 2,
+        Slot::Refused(n) => over_c(n, 0),
+    }
+}
+
+// Lists the first starts of a block that may be used, four octets to each, into a list that is wiped at each call.
+// Refused, in this order: 11, 19, 9, 20, 1, 21.
+#[no_mangle]
+pub extern "C" fn gemthatch_search(
+    memory: &[u8],
+    m1: u32,
+    time: u32,
+    count: u32,
+    lo: u32,
+    hi: u32,
+    length: u32,
+    wanted: u32,
+    list: &mut [u8],
+) -> u32
+    ensures answer { λ r. ⌜ r ≡ searchNumber (lent m1 time count (now (memory .entry))) (query lo hi length wanted) (len (now (list .entry))) ⌝ }
+    ensures list { λ _. ⌜ now (list .exit) ≡ searchList (lent m1 time count (now (memory .entry))) (query lo hi length wanted) (len (now (list .entry))) ⌝ }
+{
+    octets::clear_from(list, 0);
+    let s = State {
+        m1,
+        now: time,
+        count,
+    };
+    let q = Query {
+        lo,
+        hi,
+        length,
+        wanted,
+    };
+    let mut starts = [0u32; 16];
+    let places = list.len() / 4;
+    let f = search_places(s, memory, q, &mut starts, places);
+    let n = f.number as usize;
+    put_numbers(list, &starts, n);
+    over_c(f.refusal, f.number)
+}
+
+// Which of the n found to use, by a number r. Refused 20 for n outside 1..16.
+#[no_mangle]
+pub extern "C" fn gemthatch_pick(n: u32, r: u32) -> u32
+    ensures { λ v. ⌜ v ≡ overC (picked n r .refusal) (picked n r .place) ⌝ }
+{
+    let p = search::pick(n, r);
+    over_c(p.refusal, p.place)
+}
+
+// What this crate claims over its promises.
+pub fn claims()
+    ensures { λ _. ⌜ Claims ⌝ }
+{}

@@ -1,0 +1,219 @@
+/*
+ * A C host: one worker that serves three airfields' channels with the same scratch list, through a day at month's end.
+ *
+ *     gcc -Iinclude examples/host.c target/staticlib/libgemthatch.a -o host && ./host
+ *
+ * It says what it does line by line. Its exit status is not 0 where something came out otherwise than this file says.
+ */
+#include <stdio.h>
+#include <string.h>
+
+#include "gemthatch.h"
+
+#define RECORDS 4u
+#define OCTETS (RECORDS * GEMTHATCH_RECORD_OCTETS)
+
+static const uint8_t rates[GEMTHATCH_RATES] = GEMTHATCH_TABLE_1_33;
+static const double limit = GEMTHATCH_LIMIT_DEFAULT;
+
+/* The one list that the worker lends to every channel's searches. */
+static uint8_t scratch[GEMTHATCH_LIST_MAX];
+
+static int surprises = 0;
+
+/* What this file says must come out. */
+static void expect(int so, const char *what)
+{
+    if (!so) {
+        printf("  NOT SO: %s\n", what);
+        surprises = surprises + 1;
+    }
+}
+
+/* Says how a call went, its number as so many of something (or nothing), and hands the answer on. */
+static uint32_t told(const char *call, uint32_t answer, const char *of_what)
+{
+    const uint32_t refusal = gemthatch_refusal_of(answer);
+    printf("  %-34s ", call);
+    if (refusal != GEMTHATCH_ACCEPTED)
+        printf("refused %u: %s\n", (unsigned)refusal, gemthatch_refusal_text(refusal));
+    else if (of_what == NULL)
+        printf("accepted\n");
+    else
+        printf("%u %s\n", (unsigned)answer, of_what);
+    return answer;
+}
+
+static uint32_t told_slot(const gemthatch_channel *channel, uint32_t slot)
+{
+    static const char *const states[] = { "free", "reusable", "taken" };
+    const uint32_t answer = gemthatch_channel_slot_state(channel, slot);
+    const uint32_t refusal = gemthatch_refusal_of(answer);
+    printf("  slot %-29u %s\n", (unsigned)slot, refusal == GEMTHATCH_ACCEPTED ? states[answer] : gemthatch_refusal_text(refusal));
+    return answer;
+}
+
+static int all_zero(const uint8_t *octets, size_t count)
+{
+    size_t i;
+    for (i = 0; i < count; i++)
+        if (octets[i] != 0)
+            return 0;
+    return 1;
+}
+
+/* Whether one of the records that lie in the memory is the station's: its first four octets, little-endian. */
+static int names_station(const gemthatch_channel *channel, uint32_t station)
+{
+    uint32_t i;
+    for (i = 0; i < channel->count; i++)
+        if (gemthatch_list_slot(channel->memory + i * GEMTHATCH_RECORD_OCTETS, 0) == station)
+            return 1;
+    return 0;
+}
+
+static void show(const char *name, const gemthatch_channel *channel)
+{
+    size_t i;
+    printf("  %s: M1 %u, now %u, %u records\n", name, (unsigned)channel->m1, (unsigned)channel->now, (unsigned)channel->count);
+    for (i = 0; i < channel->octets; i++)
+        printf("%s%02x%s", i % GEMTHATCH_RECORD_OCTETS == 0 ? "    " : " ", channel->memory[i],
+               i % GEMTHATCH_RECORD_OCTETS == GEMTHATCH_RECORD_OCTETS - 1 ? "\n" : "");
+}
+
+/* A burst comes in: its nine octets are read, and what they announce is reserved for the station that sent it. */
+static uint32_t take_burst(gemthatch_channel *channel, uint32_t station, const uint8_t *octets, uint32_t superframes)
+{
+    const gemthatch_reading read = gemthatch_read(octets, GEMTHATCH_BURST_OCTETS);
+    uint32_t rate;
+    if (read.refusal != GEMTHATCH_ACCEPTED)
+        return GEMTHATCH_REFUSED + read.refusal;
+    rate = gemthatch_rate(rates, sizeof rates, read.block.br);
+    if (rate >= GEMTHATCH_REFUSED)
+        return rate;
+    return gemthatch_channel_reserve(channel, station, rate, superframes, read.block.bs, read.block.blg + 1u, GEMTHATCH_KIND_UNKNOWN, 0.0,
+                                     0.0, limit);
+}
+
+/* One slot, bs slots from now. */
+static uint32_t reserve_one(gemthatch_channel *channel, uint32_t station, uint32_t bs)
+{
+    return gemthatch_channel_reserve(channel, station, 1u, 1u, bs, 1u, GEMTHATCH_KIND_UNKNOWN, 0.0, 0.0, limit);
+}
+
+/* Finds a place for a block of our own, picks one by a random number, and says which. The list is wiped by the next search. */
+static uint32_t place_block(const char *name, const gemthatch_channel *channel, uint32_t lo, uint32_t hi, uint32_t length, uint32_t random)
+{
+    uint32_t i, place, start;
+    const uint32_t found =
+        told("search for 3 starts", gemthatch_channel_search(channel, lo, hi, length, 3u, scratch, sizeof scratch), "found");
+    if (found >= GEMTHATCH_REFUSED) {
+        expect(all_zero(scratch, sizeof scratch), "a refused search leaves an empty list");
+        return found;
+    }
+    printf("  %s may start at", name);
+    for (i = 0; i < found; i++)
+        printf(" %u", (unsigned)gemthatch_list_slot(scratch, i));
+    place = gemthatch_pick(found, random);
+    start = gemthatch_list_slot(scratch, place);
+    printf(", and takes %u\n", (unsigned)start);
+    expect(all_zero(scratch + found * GEMTHATCH_LIST_SLOT_OCTETS, sizeof scratch - found * GEMTHATCH_LIST_SLOT_OCTETS),
+           "behind the answer the list is zero");
+    return start;
+}
+
+int main(void)
+{
+    static uint8_t memories[4][OCTETS];
+    /* 00 00 01 20 02 03 05 FE 12: destination 1, blocks of 5 slots, rate code 3, block start 5; and the same with block start 1. */
+    static const uint8_t burst[GEMTHATCH_BURST_OCTETS] = { 0x00, 0x00, 0x01, 0x20, 0x02, 0x03, 0x05, 0xFE, 0x12 };
+    static const uint8_t noise[GEMTHATCH_BURST_OCTETS] = { 0x00, 0x00, 0x01, 0x20, 0x02, 0x03, 0x01, 0xFE, 0x12 };
+    const uint32_t tenant = 7001u, resident = 7002u, visitor = 7003u;
+    gemthatch_channel alder, birch, cedar, twin;
+    uint32_t answer, i;
+
+    memset(memories, 0xAA, sizeof memories); /* what the worker had there before */
+
+    printf("Morning: the channels open, each with room for %u records\n", (unsigned)RECORDS);
+    (void)told("Alder, M1 4500", gemthatch_channel_open(&alder, memories[0], OCTETS, GEMTHATCH_M1_DEFAULT), NULL);
+    (void)told("Birch, M1 4500", gemthatch_channel_open(&birch, memories[1], OCTETS, GEMTHATCH_M1_DEFAULT), NULL);
+    answer = told("Cedar, M1 4510", gemthatch_channel_open(&cedar, memories[2], OCTETS, 4510u), NULL);
+    expect(gemthatch_refusal_of(answer) == GEMTHATCH_REFUSED_FIGURE, "M1 goes by steps of 60");
+    (void)told("Cedar, M1 60", gemthatch_channel_open(&cedar, memories[2], OCTETS, GEMTHATCH_M1_MIN), NULL);
+    /* The twin sees Birch's day without the tenant, to hold Birch against at the end. */
+    (void)told("Birch's twin, M1 4500", gemthatch_channel_open(&twin, memories[3], OCTETS, GEMTHATCH_M1_DEFAULT), NULL);
+    expect(all_zero(memories[0], sizeof memories), "an opened table is all zero");
+
+    printf("\nSlot 100: bursts come in\n");
+    (void)told("Alder's clock", gemthatch_channel_clock(&alder, 100u), "records over");
+    (void)told("Birch's clock", gemthatch_channel_clock(&birch, 100u), "records over");
+    (void)told("the twin's clock", gemthatch_channel_clock(&twin, 100u), "records over");
+    (void)told("Alder: the visitor", take_burst(&alder, visitor, burst, 2u), NULL);
+    (void)told("Birch: the tenant", take_burst(&birch, tenant, burst, 3u), NULL);
+    (void)told("Birch: the resident", take_burst(&birch, resident, burst, 2u), NULL);
+    (void)told("the twin: the resident", take_burst(&twin, resident, burst, 2u), NULL);
+    answer = told("Birch: the resident, once more", take_burst(&birch, resident, burst, 2u), NULL);
+    expect(gemthatch_refusal_of(answer) == GEMTHATCH_REFUSED_HELD, "it is held already");
+    answer = told("the twin: the same", take_burst(&twin, resident, burst, 2u), NULL);
+    expect(gemthatch_refusal_of(answer) == GEMTHATCH_REFUSED_HELD, "and so at the twin");
+    answer = told("Birch: a burst with bs 1", take_burst(&birch, visitor, noise, 2u), NULL);
+    expect(gemthatch_refusal_of(answer) == GEMTHATCH_REFUSED_BS, "bs 1 is refused");
+
+    printf("\nAlder: the visitor has slots 105..109, and so every 1125 slots on\n");
+    expect(told_slot(&alder, 104u) == GEMTHATCH_FREE, "no block has 104");
+    expect(told_slot(&alder, 105u) == GEMTHATCH_TAKEN, "105 is the first block's");
+    answer = place_block("Alder", &alder, 105u, 111u, 2u, 4710u);
+    expect(answer == 110u, "110 and 111 are free, and 4710 mod 2 is 0");
+
+    printf("\nThe visitor is 200 miles out: its slots may be used again, after the free ones\n");
+    answer = gemthatch_channel_distance(&alder, visitor, GEMTHATCH_KIND_RANGE, 200.0, 0.0, limit);
+    (void)told("Alder: the visitor's distance", answer, "records");
+    expect(answer == 1u, "it has one record");
+    expect(told_slot(&alder, 105u) == GEMTHATCH_REUSABLE, "all who hold 105 are far");
+    answer = place_block("Alder", &alder, 105u, 111u, 2u, 4712u);
+    expect(answer == 105u, "105 comes third, and 4712 mod 3 is 2");
+
+    printf("\nBirch gets the same scratch list, and finds nothing in its range\n");
+    answer = place_block("Birch", &birch, 105u, 105u, 2u, 4712u);
+    expect(gemthatch_refusal_of(answer) == GEMTHATCH_REFUSED_NONE, "105 is taken at Birch, and of Alder's answer no trace is left");
+
+    printf("\nCedar fills up\n");
+    for (i = 0; i < RECORDS; i++)
+        (void)told("a station reserves one slot", reserve_one(&cedar, i, 20u + i), NULL);
+    answer = told("and one more", reserve_one(&cedar, 9u, 30u), NULL);
+    expect(gemthatch_refusal_of(answer) == GEMTHATCH_REFUSED_FULL, "there is no room");
+    answer = told("Cedar's clock, slot 22", gemthatch_channel_clock(&cedar, 22u), "records over");
+    expect(answer == 2u, "those at 20 and 21 are over");
+
+    printf("\nLater: the tenant reserves again, and time goes on\n");
+    (void)told("Birch's clock, slot 5000", gemthatch_channel_clock(&birch, 5000u), "records over");
+    (void)told("the twin's clock, slot 5000", gemthatch_channel_clock(&twin, 5000u), "records over");
+    (void)told("Birch: the tenant", take_burst(&birch, tenant, burst, 1u), NULL);
+    answer = gemthatch_channel_distance(&birch, tenant, GEMTHATCH_KIND_OFFSET, 90.0, 120.0, limit);
+    (void)told("Birch: the tenant's distance", answer, "records");
+    expect(answer == 2u, "it has two records");
+    (void)told("Birch: the visitor", take_burst(&birch, visitor, burst, 3u), NULL);
+    (void)told("the twin: the visitor", take_burst(&twin, visitor, burst, 3u), NULL);
+    (void)told("Birch's clock, slot 9000", gemthatch_channel_clock(&birch, 9000u), "records over");
+    (void)told("the twin's clock, slot 9000", gemthatch_channel_clock(&twin, 9000u), "records over");
+    show("Birch", &birch);
+
+    printf("\nMonth's end: the tenant leaves Birch\n");
+    answer = told("Birch: the tenant is wiped", gemthatch_channel_wipe(&birch, tenant), "records removed");
+    expect(answer == 1u, "its other one was over");
+    show("Birch", &birch);
+    show("its twin, which never saw the tenant", &twin);
+    expect(!names_station(&birch, tenant), "no record is the tenant's");
+    expect(birch.now == twin.now && birch.count == twin.count, "clock and count are those without the tenant");
+    expect(memcmp(memories[1], memories[3], OCTETS) == 0, "the octets are those without the tenant");
+    answer = gemthatch_channel_search(&birch, 9000u, 9100u, 5u, GEMTHATCH_WANTED_MAX, scratch, sizeof scratch - 1u);
+    (void)told("a search with a list too short", answer, "found");
+    expect(gemthatch_refusal_of(answer) == GEMTHATCH_REFUSED_SIZE, "fifteen places and three octets are too few");
+    expect(all_zero(scratch, sizeof scratch), "the scratch list holds no slot of anybody");
+
+    if (surprises == 0)
+        printf("\nBirch and its twin are the same in every octet, and the scratch list is empty.\n");
+    else
+        printf("\n%d things came out otherwise.\n", surprises);
+    return surprises == 0 ? 0 : 1;
+}

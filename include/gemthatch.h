@@ -1,0 +1,352 @@
+/*
+ * gemthatch.h - slot reservation for VDL Mode 4 ground stations
+ *
+ * This header is the manual of libgemthatch.a. It speaks C99 and C++.
+ *
+ *     gcc -Iinclude host.c target/staticlib/libgemthatch.a
+ *
+ * WHAT IT DOES
+ * A superframe block reservation is nine octets of a burst: read and write them. A channel's reservations stand in a table of records in
+ * memory that you lend. A slot is free, reusable or taken, as the stored reservations say. A search lists where a block of slots may be
+ * placed, and a pick chooses one. A station that leaves is wiped without trace.
+ *
+ * WHAT EVERY CALL PROMISES
+ * Every call takes any numbers and any octets, and ends. Bad input gets a numbered refusal, the first that applies in the order given with
+ * the call. A refused call changes no octet of the table, and the state stays what it was. A search's list is wiped with zeros at every
+ * call, refused or not, and then holds the answer only. All of this is proved of the library's code, for every input.
+ *
+ * WHO OWNS WHAT
+ * All memory is yours. The library allocates nothing, keeps no pointer after a call, and has no state of its own: what it knows is what you
+ * hand it. Calls on different memories may run at the same time in different threads. Of calls that are given the same memory, those that
+ * only look (slot state, search) may run at the same time; any other must run alone.
+ *
+ * What a call is lent is a pointer and the number of octets behind it. No alignment is asked. NULL is allowed where that number is 0. A
+ * search's list must not overlap the table's memory. These, and that so many octets are really there, are the only things that the library
+ * can't test for you.
+ *
+ * The table's memory and the state go together: hand back the memory as the last call left it, with the state that its answer gives.
+ * `gemthatch_channel`, at the end of this file, does that for you.
+ *
+ * Distances are compared in double precision, each operation rounded once to nearest: leave the processor's rounding mode as C starts it.
+ */
+#ifndef GEMTHATCH_H
+#define GEMTHATCH_H
+
+#include <stddef.h>
+#include <stdint.h>
+
+#ifdef __cplusplus
+extern "C" {
+#endif
+
+/* An answer that is dropped by accident is a warning. */
+#if defined(__GNUC__) || defined(__clang__)
+#define GEMTHATCH_MUST_USE __attribute__((warn_unused_result))
+#else
+#define GEMTHATCH_MUST_USE
+#endif
+
+/* ---- sizes and limits --------------------------------------------------------------------------------------------------------------- */
+
+#define GEMTHATCH_BURST_OCTETS 9u           /* a superframe block reservation, n-10 to n-2 of the burst */
+#define GEMTHATCH_RATES 16u                 /* entries of a rate list, one for each code */
+#define GEMTHATCH_RECORD_OCTETS 12u         /* a record of the table */
+#define GEMTHATCH_RECORDS_MAX 2048u         /* records of a table, at least 1 */
+#define GEMTHATCH_MEMORY_MAX (GEMTHATCH_RECORDS_MAX * GEMTHATCH_RECORD_OCTETS)
+#define GEMTHATCH_LIST_SLOT_OCTETS 4u       /* a slot in a search's list */
+#define GEMTHATCH_WANTED_MAX 16u            /* starts that a search gives, at least 1 */
+#define GEMTHATCH_LIST_MAX (GEMTHATCH_WANTED_MAX * GEMTHATCH_LIST_SLOT_OCTETS) /* octets that a search's list ever needs */
+
+#define GEMTHATCH_M1_MIN 60u                /* slots in a superframe, by steps of 60 */
+#define GEMTHATCH_M1_MAX 15360u
+#define GEMTHATCH_M1_DEFAULT 4500u
+#define GEMTHATCH_SLOT_MAX 1000000000u      /* the last slot of the clock and of a search */
+#define GEMTHATCH_STATION_MAX 134217727u    /* a 27-bit address */
+#define GEMTHATCH_RATE_MAX 60u              /* blocks in a superframe, at least 1 */
+#define GEMTHATCH_SUPERFRAMES_MAX 3u        /* at least 1 */
+#define GEMTHATCH_LENGTH_MAX 32u            /* slots in a block, at least 1 */
+#define GEMTHATCH_BS_MIN 2u                 /* slots from now to the first block */
+#define GEMTHATCH_BS_MAX 255u
+#define GEMTHATCH_MILES_MAX 4096.0          /* nautical miles that are told apart from unknown, and the highest reuse limit */
+#define GEMTHATCH_LIMIT_DEFAULT 150.0       /* the manual's default reuse limit (Q2a) */
+
+/* ---- answers and refusals ----------------------------------------------------------------------------------------------------------- */
+
+/* Every call that returns a plain uint32_t returns its number, or GEMTHATCH_REFUSED plus the refusal. No number comes near it. */
+#define GEMTHATCH_REFUSED 2000000000u
+
+/* Each is given exactly when its line says so, and no earlier one of the call's order applies. */
+enum gemthatch_refusal {
+    GEMTHATCH_ACCEPTED = 0,
+    GEMTHATCH_REFUSED_SIZE = 1,            /* not nine octets; at open, memory not 1..2,048 whole records; a list shorter than wanted */
+    GEMTHATCH_REFUSED_EXTENDED_ID = 2,     /* octet 9 bits 8-4 not 00010 */
+    GEMTHATCH_REFUSED_CODE = 3,            /* br code 7, 14, 15 or above 15; in the rate lookup also one whose entry is 0 */
+    GEMTHATCH_REFUSED_ROFF = 4,            /* roff outside 2..255 */
+    GEMTHATCH_REFUSED_BS = 5,              /* bs outside 2..255 */
+    GEMTHATCH_REFUSED_BO = 6,              /* bo outside -127..127 (octet 128) */
+    GEMTHATCH_REFUSED_RATE_LIST = 7,       /* not sixteen entries, one above 60, or one not 0 at 7, 14 or 15 */
+    GEMTHATCH_REFUSED_ADDRESS = 8,         /* address 2^27 or more */
+    GEMTHATCH_REFUSED_FIELD = 9,           /* blg above 31, bt or superframes above 3, length 0 or above 32 */
+    GEMTHATCH_REFUSED_FIGURE = 10,         /* the figure doesn't fit its parameter's row */
+    GEMTHATCH_REFUSED_NOT_SOUND = 11,      /* memory and state are no table that the library left */
+    GEMTHATCH_REFUSED_BEHIND = 12,         /* clock, or slot asked about, behind now */
+    GEMTHATCH_REFUSED_LATE = 13,           /* clock, or slot asked about, above 1,000,000,000 */
+    GEMTHATCH_REFUSED_RATE = 14,           /* rate 0 or above 60 */
+    GEMTHATCH_REFUSED_NO_SUPERFRAMES = 15, /* superframes 0 */
+    GEMTHATCH_REFUSED_HELD = 16,           /* same station, first slot, rate, superframes and length already held */
+    GEMTHATCH_REFUSED_FULL = 17,           /* as many records as the memory has room for */
+    GEMTHATCH_REFUSED_LIMIT = 18,          /* reuse limit NaN or outside 0..4096 */
+    GEMTHATCH_REFUSED_SEARCH_RANGE = 19,   /* lo before now, lo above hi, hi above 1,000,000,000, or hi - lo at least M1 */
+    GEMTHATCH_REFUSED_WANTED = 20,         /* wanted outside 1..16; pick from n outside 1..16 */
+    GEMTHATCH_REFUSED_NONE = 21,           /* no start in the range has a block without a taken slot */
+    GEMTHATCH_REFUSED_PARAMETER = 22       /* parameter number not 1..3 */
+};
+
+/* The refusal in an answer: 0, GEMTHATCH_ACCEPTED, where it is a number. */
+static inline uint32_t gemthatch_refusal_of(uint32_t answer)
+{
+    return answer < GEMTHATCH_REFUSED ? 0u : answer - GEMTHATCH_REFUSED;
+}
+
+/* A refusal in a few words, for a log. */
+static inline const char *gemthatch_refusal_text(uint32_t refusal)
+{
+    static const char *const texts[] = {
+        "accepted", "wrong size", "no superframe block reservation", "invalid rate code", "roff outside 2..255", "bs outside 2..255",
+        "bo outside -127..127", "bad rate list", "address above 27 bits", "blg, bt, superframes or length out of range",
+        "figure does not fit its parameter", "table not sound", "behind now", "above the last slot", "rate outside 1..60", "no superframes",
+        "already held", "table full", "reuse limit outside 0..4096", "search range", "wanted or n outside 1..16", "no block to use",
+        "no such parameter"
+    };
+    return refusal < sizeof texts / sizeof texts[0] ? texts[refusal] : "no refusal of this library";
+}
+
+/* ---- the nine octets ---------------------------------------------------------------------------------------------------------------- */
+
+/* The fields of a superframe block reservation. */
+typedef struct gemthatch_block {
+    uint32_t d;    /* destination address, below 2^27 */
+    uint32_t blg;  /* 0..31, one less than the slots of a block */
+    uint32_t roff; /* re-broadcast offset, 2..255 */
+    uint32_t br;   /* block repeat rate code, 0..13 without 7 */
+    uint32_t bs;   /* block start, 2..255 */
+    int32_t bo;    /* block offset, -127..127; it moves no block */
+    uint32_t bt;   /* 0..3 */
+} gemthatch_block;
+
+/* What reading gives: the bare refusal, 0 where it is accepted, and the fields, all 0 where it is refused. */
+typedef struct gemthatch_reading {
+    uint32_t refusal;
+    gemthatch_block block;
+} gemthatch_reading;
+
+/* What writing gives: the bare refusal, 0 where it is accepted, and the octets, all 0 where it is refused. */
+typedef struct gemthatch_writing {
+    uint32_t refusal;
+    uint8_t octets[GEMTHATCH_BURST_OCTETS];
+} gemthatch_writing;
+
+/*
+ * Reads a reservation. The reserved bits (octet 6 bits 8-5, octet 9 bit 3) are ignored.
+ * Refused, in this order: 1 length not 9, 2, 3, 4, 5, 6.
+ */
+GEMTHATCH_MUST_USE gemthatch_reading gemthatch_read(const uint8_t *octets, size_t length);
+
+/*
+ * Writes a reservation, the reserved bits 0. Reading what was written gives the same fields; writing what was read gives the same octets
+ * with the reserved bits cleared.
+ * Refused, in this order: 8 d, 9 blg or bt, 3, 4, 5, 6.
+ */
+GEMTHATCH_MUST_USE gemthatch_writing gemthatch_write(gemthatch_block block);
+
+/* The rates of the technical manual's Table 1-33, by code: `static const uint8_t rates[GEMTHATCH_RATES] = GEMTHATCH_TABLE_1_33;` */
+#define GEMTHATCH_TABLE_1_33 { 1, 2, 3, 4, 5, 6, 8, 0, 10, 12, 15, 20, 30, 60, 0, 0 }
+
+/*
+ * The rate, 1..60, that a code stands for in a list of sixteen, in which 0 means no rate.
+ * Refused, in this order: 7, 3.
+ */
+GEMTHATCH_MUST_USE uint32_t gemthatch_rate(const uint8_t *rates, size_t entries, uint32_t code);
+
+/*
+ * 0 where a figure fits a parameter: 1 M1 (60..15,360 by 60), 2 M2inc (1..256 by 1), 3 M2limit (1..65,536 by 1).
+ * Refused, in this order: 22, 10.
+ */
+GEMTHATCH_MUST_USE uint32_t gemthatch_parameter(uint32_t number, uint32_t figure);
+
+/* ---- the table ---------------------------------------------------------------------------------------------------------------------- */
+
+/*
+ * The memory is GEMTHATCH_RECORD_OCTETS for each record that it shall hold, 1 to GEMTHATCH_RECORDS_MAX. The state beside it is three
+ * numbers: M1, now and count. Form the next state from an accepted answer as each call says; a refused call leaves memory and state as
+ * they were.
+ *
+ * A record reserves, for k below superframes and j below rate, the `length` slots from first + k*M1 + j*(M1/rate), the division's
+ * remainder dropped. It is over when its last slot is before now.
+ *
+ * Every call on a table first tests it whole, and refuses it with 11 where it is not sound: memory of a right size, M1 fits, now at most
+ * 1,000,000,000, count at most the capacity, every record's fields in their ranges and not over, all octets after the records 0.
+ */
+
+/*
+ * Opens a table: every octet 0. Next state: m1, 0, 0; where it is refused 0, 0, 0, and the memory is untouched.
+ * Returns 0. Refused, in this order: 10 M1, 1 size of the memory.
+ */
+GEMTHATCH_MUST_USE uint32_t gemthatch_open(uint8_t *memory, size_t octets, uint32_t m1);
+
+/*
+ * Sets now to a slot, which may be now again, and drops the records that are over then; the others keep their order, octets behind them
+ * are 0. Next state: m1, slot, count less the number returned.
+ * Returns how many were dropped. Refused, in this order: 11, 12, 13.
+ */
+GEMTHATCH_MUST_USE uint32_t gemthatch_clock(uint8_t *memory, size_t octets, uint32_t m1, uint32_t now, uint32_t count, uint32_t slot);
+
+/* How a distance is handed over. Any other kind is read as unknown. */
+enum gemthatch_kind {
+    GEMTHATCH_KIND_UNKNOWN = 0, /* a and b are ignored */
+    GEMTHATCH_KIND_RANGE = 1,   /* a is a range in nautical miles, b is ignored */
+    GEMTHATCH_KIND_OFFSET = 2   /* a is how far to the east, b how far to the north */
+};
+
+/*
+ * Adds one record at the end: station, first slot now + bs, rate, superframes, length, and whether the station is far. A range is far if
+ * limit <= a <= 4096; an offset if both parts lie in -4096..4096 and a*a + b*b >= limit*limit. Unknown and NaN are never far.
+ * Next state: m1, now, count + 1.
+ * Returns 0. Refused, in this order: 11, 8, 14, 15, 9 superframes or length, 5, 18, 16, 17.
+ */
+GEMTHATCH_MUST_USE uint32_t gemthatch_reserve(uint8_t *memory, size_t octets, uint32_t m1, uint32_t now, uint32_t count, uint32_t station,
+                                              uint32_t rate, uint32_t superframes, uint32_t bs, uint32_t length, uint32_t kind, double a,
+                                              double b, double limit);
+
+/*
+ * Says anew whether a station is far, in all its records. The state stays.
+ * Returns how many records it has; 0 is no refusal. Refused, in this order: 11, 8, 18.
+ */
+GEMTHATCH_MUST_USE uint32_t gemthatch_distance(uint8_t *memory, size_t octets, uint32_t m1, uint32_t now, uint32_t count, uint32_t station,
+                                               uint32_t kind, double a, double b, double limit);
+
+/*
+ * Removes a station's records; the others keep their order, octets behind them are 0. Unless another station's reservation was ever
+ * refused because the table was full, memory and state are then what they would be had the station never called.
+ * Next state: m1, now, count less the number returned.
+ * Returns how many were removed; 0 is no refusal. Refused, in this order: 11, 8.
+ */
+GEMTHATCH_MUST_USE uint32_t gemthatch_wipe(uint8_t *memory, size_t octets, uint32_t m1, uint32_t now, uint32_t count, uint32_t station);
+
+/* ---- slots -------------------------------------------------------------------------------------------------------------------------- */
+
+/* A slot's state. */
+enum gemthatch_slot {
+    GEMTHATCH_FREE = 0,     /* no record reserves it */
+    GEMTHATCH_REUSABLE = 1, /* some do, and all those are far */
+    GEMTHATCH_TAKEN = 2     /* otherwise */
+};
+
+/*
+ * Returns the state of a slot from now on.
+ * Refused, in this order: 11, 12, 13.
+ */
+GEMTHATCH_MUST_USE uint32_t gemthatch_slot_state(const uint8_t *memory, size_t octets, uint32_t m1, uint32_t now, uint32_t count,
+                                                 uint32_t slot);
+
+/*
+ * Lists where a block of `length` slots may start in lo..hi: first the starts whose slots are all free, ascending, then those with no taken
+ * slot, ascending; cut after `wanted`. Only the start has to lie in the range.
+ * The list is octets, GEMTHATCH_LIST_SLOT_OCTETS to a slot, little-endian; octets left over at its end count for no place. All of it is
+ * wiped at every call, refused or not. Slot 0 is a slot like any other: the number found says how many entries the list has.
+ * Returns the number found, 1..wanted. Refused, in this order: 11, 19, 9 length, 20, 1 list shorter than wanted, 21 none found.
+ */
+GEMTHATCH_MUST_USE uint32_t gemthatch_search(const uint8_t *memory, size_t octets, uint32_t m1, uint32_t now, uint32_t count, uint32_t lo,
+                                             uint32_t hi, uint32_t length, uint32_t wanted, uint8_t *list, size_t list_octets);
+
+/* The slot at a place, from 0, of a search's list. */
+static inline uint32_t gemthatch_list_slot(const uint8_t *list, size_t place)
+{
+    const uint8_t *at = list + place * GEMTHATCH_LIST_SLOT_OCTETS;
+    return (uint32_t)at[0] | (uint32_t)at[1] << 8 | (uint32_t)at[2] << 16 | (uint32_t)at[3] << 24;
+}
+
+/*
+ * Which of the n starts found to use, by a random number r: the place r mod n, always below n.
+ * Returns the place in the list. Refused: 20 n outside 1..16.
+ */
+GEMTHATCH_MUST_USE uint32_t gemthatch_pick(uint32_t n, uint32_t r);
+
+/* ---- a channel: a table with its state ------------------------------------------------------------------------------------------------ */
+
+/*
+ * The calls above with the state kept for you: each forms the next state from its answer, as proved in the library (its claim
+ * `state-formed`). The memory stays yours, and must live as long as the channel is used.
+ */
+typedef struct gemthatch_channel {
+    uint8_t *memory;
+    size_t octets;
+    uint32_t m1;
+    uint32_t now;
+    uint32_t count;
+} gemthatch_channel;
+
+/* Refused, the channel is empty: all its calls are refused with 11. */
+GEMTHATCH_MUST_USE static inline uint32_t gemthatch_channel_open(gemthatch_channel *channel, uint8_t *memory, size_t octets, uint32_t m1)
+{
+    const uint32_t answer = gemthatch_open(memory, octets, m1);
+    channel->memory = memory;
+    channel->octets = octets;
+    channel->m1 = answer < GEMTHATCH_REFUSED ? m1 : 0u;
+    channel->now = 0u;
+    channel->count = 0u;
+    return answer;
+}
+
+GEMTHATCH_MUST_USE static inline uint32_t gemthatch_channel_clock(gemthatch_channel *channel, uint32_t slot)
+{
+    const uint32_t answer = gemthatch_clock(channel->memory, channel->octets, channel->m1, channel->now, channel->count, slot);
+    if (answer < GEMTHATCH_REFUSED) {
+        channel->now = slot;
+        channel->count -= answer;
+    }
+    return answer;
+}
+
+GEMTHATCH_MUST_USE static inline uint32_t gemthatch_channel_reserve(gemthatch_channel *channel, uint32_t station, uint32_t rate,
+                                                                    uint32_t superframes, uint32_t bs, uint32_t length, uint32_t kind,
+                                                                    double a, double b, double limit)
+{
+    const uint32_t answer = gemthatch_reserve(channel->memory, channel->octets, channel->m1, channel->now, channel->count, station, rate,
+                                              superframes, bs, length, kind, a, b, limit);
+    if (answer < GEMTHATCH_REFUSED)
+        channel->count += 1u;
+    return answer;
+}
+
+GEMTHATCH_MUST_USE static inline uint32_t gemthatch_channel_distance(gemthatch_channel *channel, uint32_t station, uint32_t kind, double a,
+                                                                     double b, double limit)
+{
+    return gemthatch_distance(channel->memory, channel->octets, channel->m1, channel->now, channel->count, station, kind, a, b, limit);
+}
+
+GEMTHATCH_MUST_USE static inline uint32_t gemthatch_channel_wipe(gemthatch_channel *channel, uint32_t station)
+{
+    const uint32_t answer = gemthatch_wipe(channel->memory, channel->octets, channel->m1, channel->now, channel->count, station);
+    if (answer < GEMTHATCH_REFUSED)
+        channel->count -= answer;
+    return answer;
+}
+
+GEMTHATCH_MUST_USE static inline uint32_t gemthatch_channel_slot_state(const gemthatch_channel *channel, uint32_t slot)
+{
+    return gemthatch_slot_state(channel->memory, channel->octets, channel->m1, channel->now, channel->count, slot);
+}
+
+GEMTHATCH_MUST_USE static inline uint32_t gemthatch_channel_search(const gemthatch_channel *channel, uint32_t lo, uint32_t hi,
+                                                                   uint32_t length, uint32_t wanted, uint8_t *list, size_t list_octets)
+{
+    return gemthatch_search(channel->memory, channel->octets, channel->m1, channel->now, channel->count, lo, hi, length, wanted, list,
+                            list_octets);
+}
+
+#ifdef __cplusplus
+}
+#endif
+
+#endif
