@@ -1,13 +1,18 @@
-# make demo   list the sample bursts
+# make demo   a C host's day, and the listing of the sample bursts
 # make test   everything that must hold, as the gate runs it; its last line is 'N passed, M failed'
-# make bench  the listing beside a plain and a tuned Rust program, in one run
+# make bench  the calls beside a plain Rust implementation, and the listing beside a plain and a tuned program, each in one run
 
-second := target/second/release
-build-second := cargo build --quiet --release --offline --manifest-path tests/second/Cargo.toml --target-dir target/second
+archive := target/staticlib/libgemthatch.a
+second := target/second/release/second
+peer := target/second/release/peer
+proved := crates.txt $(shell find crates -type f)
 
-.PHONY: demo test bench clean
+.PHONY: demo test bench clean second
 
-demo: target/bin/listing
+demo: target/host target/bin/listing
+	@echo 'target/host (examples/host.c)'
+	@target/host
+	@echo
 	@echo 'samples/bursts, nine octets to a burst:'
 	@od -An -v -w9 -tx1 samples/bursts
 	@echo
@@ -17,12 +22,25 @@ demo: target/bin/listing
 test:
 	@tests/run
 
-bench: target/bin/listing
-	@$(build-second)
-	@$(second)/second bench-listing target/bin/listing $(second)/peer
+bench: target/bin/listing second
+	@$(second) bench-calls
+	@echo
+	@$(second) bench-listing target/bin/listing $(peer)
 
-# A program is built only once it and all below it are proved, which takes about a minute.
-target/bin/listing: crates.txt $(shell find crates -type f)
+second: $(archive)
+	@cargo build --quiet --release --offline --manifest-path tests/second/Cargo.toml --target-dir target/second
+
+target/host: examples/host.c include/gemthatch.h $(archive)
+	@gcc -O2 -Iinclude examples/host.c $(archive) -o $@
+
+# What is built is built only once it and all below it are proved, which takes some minutes.
+$(archive): $(proved)
+	@echo 'proving and building the archive ..'
+	@mkdir -p target
+	@rt staticlib gemthatch > target/archive.log 2>&1 || { cat target/archive.log; exit 1; }
+	@touch $@
+
+target/bin/listing: $(proved)
 	@echo 'proving and building the listing ..'
 	@mkdir -p target
 	@rt check listing > target/check.log 2>&1 || { cat target/check.log; exit 1; }

@@ -272,7 +272,7 @@ static inline uint32_t gemthatch_list_slot(const uint8_t *list, size_t place)
  */
 GEMTHATCH_MUST_USE uint32_t gemthatch_pick(uint32_t n, uint32_t r);
 
-/* ---- a channel: a table with its state ------------------------------------------------------------------------------------------------ */
+/* ---- a channel: a table with its state ---------------------------------------------------------------------------------------------- */
 
 /*
  * The calls above with the state kept for you: each forms the next state from its answer, as proved in the library (its claim

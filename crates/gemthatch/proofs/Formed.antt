@@ -3,7 +3,7 @@ use Prim.Native.Nat.{ℕ, _+_, _-_, _≤_, zero-le}
 use native.Mathlib.Omega.{arith}
 use mathlib.Core.Path.{_≡_, refl, sym, ap, _∙_}
 use mathlib.Core.Bool.{Bool, true, false, cond, not, false≢true}
-use mathlib.Core.List.{List}
+use mathlib.Core.List.{List, [], _∷_, _++_, map}
 use lib.Dec.{leb, eqb}
 use lib.ListN.{length as len, length-append, length-map}
 use borrow.Author.Tests.{eqb-true, eqb-false, le-leb, lt-leb}
@@ -12,10 +12,11 @@ use Rattle.octets.specs.Refusals.{answer}
 use Rattle.octets.proofs.Lists.{length-keep-not}
 use Rattle.octets.proofs.Refusals.{answer-elim, answer-refused, answer-accepted, by-test}
 use Rattle.record.specs.declared.Rec.{Rec}
+use Rattle.distance.specs.Distances.{isFar}
 use Rattle.sound.specs.Sound.{Channel, records, lasts, sound}
 use Rattle.sound.proofs.Sound.{Held, held}
 use Rattle.table.specs.declared.State.{State}
-use Rattle.table.specs.Table.{Call, clock, reserve, distance, wipe, look, of, changed, reported}
+use Rattle.table.specs.Table.{Call, clock, reserve, distance, wipe, look, asked, bit, of, setFar, changed, reported}
 use Rattle.table.specs.Memory.{channel, stateOf, read, write, refusal, leaves, says, returned, openRefusal, opened, openLeaves, openReturned}
 use Rattle.table.proofs.Calls.{isLook, refusal-unsound, refused-gives, accepted-gives}
 use Rattle.table.proofs.Memory.{length-kept}
@@ -78,21 +79,28 @@ module _ (s : State) (b : List ℕ) where
   abbrev given : Channel
   given = channel s b
 
+  -- the state at a time, with so many records
+  abbrev then : ℕ → ℕ → State
+  then t n = record { m1 = s .m1; now = t; count = n }
+
   -- by what an accepted call reports
   moved-written : (c : Call) → changes c ≡ true → Held given → moved s c (reported (read given) c) ≡ stateOf (write (changed (read given) c))
   unfolding read write
   moved-written (clock slot) h k =
       let live = lasts (s .m1) slot in
-      let e : s .count - len (keep (λ r. not (live r)) (records given)) ≡ len (keep live (records given)) =
-      omega (arith, k .counted, length-keep-not live (λ r. not (live r)) (λ r. refl) (records given)) in
-      rw e
-  moved-written (reserve q) h k = rw (length-append, k .counted)
-  moved-written (distance station d limit) h k = rw (length-map, k .counted)
+      let over : Rec → Bool = λ r. not (live r) in
+      let e : s .count - len (keep over (records given)) ≡ len (keep live (records given)) = omega (arith, k .counted, length-keep-not live over (λ r. refl) (records given)) in
+      ap (then slot) e
+  moved-written (reserve q) h k =
+      let e : s .count + 1 ≡ len (records given ++ (asked (s .now) q ∷ [])) = rw (length-append, k .counted) in
+      ap (then (s .now)) e
+  moved-written (distance station d limit) h k =
+      let e : s .count ≡ len (map (setFar station (bit (isFar d limit))) (records given)) = rw (length-map, k .counted) in
+      ap (then (s .now)) e
   moved-written (wipe station) h k =
       let others : Rec → Bool = λ r. not (of station r) in
-      let e : s .count - len (keep (of station) (records given)) ≡ len (keep others (records given)) =
-      omega (arith, k .counted, length-keep-not (of station) others (λ r. refl) (records given)) in
-      rw e
+      let e : s .count - len (keep (of station) (records given)) ≡ len (keep others (records given)) = omega (arith, k .counted, length-keep-not (of station) others (λ r. refl) (records given)) in
+      ap (then (s .now)) e
   moved-written (look f) h k = absurd (false≢true h)
 
   formed-made : (c : Call) → changes c ≡ true → isLook c ≡ false → formed s c (called given c) ≡ returned given c .state
