@@ -1,5 +1,5 @@
 -- Loops over the first records of a memory: those that stay moved to the front, each one changed. Assumes nothing.
-use Prim.Native.Nat.{ℕ, suc, _+_, _<_, _≤_}
+use Prim.Native.Nat.{ℕ, zero, suc, _+_, _<_, _≤_}
 use native.Mathlib.Nat.{add-zero}
 use native.Mathlib.Numerals.{add-one}
 use native.Mathlib.Omega.{arith}
@@ -13,6 +13,12 @@ use Rattle.octets.proofs.Lists.{keep-append, length-keep}
 use Rattle.record.specs.Record.{blank}
 use Rattle.record.specs.declared.Rec.{Rec}
 use Rattle.table.specs.Steps.{sieved, mapped}
+
+-- a record written over itself
+pub set-itself : (vs : List Rec) (i : ℕ) → vs ≡ set vs i (getD vs i blank)
+set-itself [] i = refl
+set-itself (v ∷ vs) zero = refl
+set-itself (v ∷ vs) (suc i) = ap (λ (l : List Rec). v ∷ l) (set-itself vs i)
 
 -- ---- the records that pass, counted and moved to the front
 

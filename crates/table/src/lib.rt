@@ -86,14 +86,24 @@ fn does_stay(rule: Stay, r: Rec) -> bool
     (rule.any | other) & live
 }
 
-// Moves record i down to place k, whether it stays or not: a branch around the move would often be guessed wrong. The next k.
+// Writes record i over record k, unless they are the same: until the first record goes, nothing is moved.
+fn move_down(mem: &mut [u8], i: usize, k: usize, r: Rec)
+    requires { ⌜ (k ≤ i) × (r ≡ getD (view (now mem)) i blank) ⌝ }
+    ensures { λ _. ⌜ view (now (mem .exit)) ≡ set (view (now (mem .entry))) k r ⌝ }
+{
+    if k < i {
+        record::store(mem, k, r);
+    }
+}
+
+// Moves record i down to place k, whether it stays or not: a branch by that would often be guessed wrong. The next k.
 fn sift(mem: &mut [u8], i: usize, k: usize, rule: Stay) -> usize
     requires { ⌜ (k ≤ i) × (i < capacity (now mem)) ⌝ }
     ensures next { λ r. ⌜ r ≡ sieved (stays rule) (view (now (mem .entry))) i (k + 1) k ⌝ }
     ensures left { λ _. ⌜ view (now (mem .exit)) ≡ set (view (now (mem .entry))) k (getD (view (now (mem .entry))) i blank) ⌝ }
 {
     let r = record::load(mem, i);
-    record::store(mem, k, r);
+    move_down(mem, i, k, r);
     if does_stay(rule, r) {
         return k + 1;
     }

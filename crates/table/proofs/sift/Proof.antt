@@ -9,8 +9,8 @@ use Rattle.table.proofs.sift.Tie as tie
 load-requires : tie.Need-load-requires
 load-requires c κs = search needs
 
-store-requires : tie.Need-store-requires
-store-requires c κs = search needs
+move-down-requires : tie.Need-move-down-requires
+move-down-requires c κs = (c .before .before .before .before .pre .0, c .before .load .ensures)
 
 does-stay-requires : tie.Need-does-stay-requires
 does-stay-requires c κs = search needs
@@ -25,7 +25,7 @@ same-length c = search needs
 returns : tie.Need-returns
 returns c =
     let h = c .before .before .before .before in
-    rw (← h .before .before .load .ensures, ← c .before .does-stay .ensures, c .if1 .taken) (refl, h .store .ensures .1)
+    rw (← h .before .before .load .ensures, ← c .before .does-stay .ensures, c .if1 .taken) (refl, h .move-down .ensures)
 
 same-length-2 : tie.Need-same-length-2
 same-length-2 c = search needs
@@ -33,14 +33,14 @@ same-length-2 c = search needs
 returns-2 : tie.Need-returns-2
 returns-2 c =
     let h = c .before .before .before .before in
-    rw (← h .before .before .load .ensures, ← c .before .does-stay .ensures, c .if1 .left) (refl, h .store .ensures .1)
+    rw (← h .before .before .load .ensures, ← c .before .does-stay .ensures, c .if1 .left) (refl, h .move-down .ensures)
 
 pub sift-spec : {M : Type 1} → statement M
 sift-spec =
     tie.close
     (tie.spec
     load-requires
-    store-requires
+    move-down-requires
     does-stay-requires
     add-result
     same-length

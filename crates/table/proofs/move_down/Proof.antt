@@ -1,0 +1,28 @@
+-- `table::move_down` meets its contract: a record that stays where it is need not be written. Assumes nothing.
+use mathlib.Core.Path.{_≡_}
+use native.Mathlib.Omega.{arith}
+use denote.Ref.{now}
+use borrow.Author.Needs.{needs}
+use Rattle.record.specs.Record.{view}
+use Rattle.table.proofs.Loops.{set-itself}
+use Rattle.table.proofs.move_down.Statement.{statement}
+use Rattle.table.proofs.move_down.Tie as tie
+
+store-requires : tie.Need-store-requires
+store-requires c κs = search needs
+
+same-length : tie.Need-same-length
+same-length c = search needs
+
+returns : tie.Need-returns
+returns c = search needs
+
+returns-2 : tie.Need-returns-2
+returns-2 c =
+    let s = c .before .before in
+    let vs = view (now (s .args .mem)) in
+    let e : s .args .k ≡ s .args .i = omega arith in
+    rw (e, s .pre .1) (set-itself vs (s .args .i))
+
+pub move-down-spec : {M : Type 1} → statement M
+move-down-spec = tie.close (tie.spec store-requires same-length returns returns-2)
