@@ -1,7 +1,7 @@
 //! Groups of nine octets to feed to a program.
 
 use crate::draw::Draw;
-use crate::paper::{self, Fields, GROUP};
+use crate::paper::codec::{self, Fields, GROUP};
 
 /// 00 00 01 20 02 03 05 FE 12
 pub const P1: [u8; GROUP] = [0x00, 0x00, 0x01, 0x20, 0x02, 0x03, 0x05, 0xFE, 0x12];
@@ -25,14 +25,14 @@ pub fn fields(draw: &mut Draw) -> Fields {
 /// A group that is accepted, its reserved bits at random.
 pub fn accepted(draw: &mut Draw) -> [u8; GROUP] {
     let fields = fields(draw);
-    paper::write(&fields, draw.octet())
+    codec::octets(&fields, draw.octet())
 }
 
 /// The same with an address of any width, so that short lines come up too.
 fn accepted_of_any_width(draw: &mut Draw) -> [u8; GROUP] {
     let mut fields = fields(draw);
     fields.d >>= draw.below(28);
-    paper::write(&fields, draw.octet())
+    codec::octets(&fields, draw.octet())
 }
 
 /// Gives one of octets 5 to 9 a value at either side of an edge.

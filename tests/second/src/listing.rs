@@ -9,7 +9,7 @@ use std::process::{Command, Stdio};
 
 use crate::draw::Draw;
 use crate::groups::{self, P1};
-use crate::paper::{self, Fields, GROUP, HEADER};
+use crate::paper::codec::{self, Fields, GROUP, HEADER};
 use crate::report::{Report, Verdict};
 use crate::run::{hand_over, run, Outcome, LIMIT};
 use crate::temp::Temp;
@@ -128,7 +128,7 @@ fn compare(input: &[u8], expected: &[u8], given: &[u8]) -> Result<(), String> {
 fn answers(input: &[u8]) -> [usize; 7] {
     let mut answers = [0; 7];
     for group in input.chunks(GROUP) {
-        answers[paper::read(group).err().unwrap_or(0) as usize] += 1;
+        answers[codec::read(group).err().unwrap_or(0) as usize] += 1;
     }
     answers
 }
@@ -160,7 +160,7 @@ fn worked_cases(program: &Path) -> Verdict {
     let mut expected = HEADER.as_bytes().to_vec();
     for (group, line) in cases {
         let alone = [HEADER.as_bytes(), line.as_bytes()].concat();
-        compare(&group, &alone, &paper::listing(&group))
+        compare(&group, &alone, &codec::listing(&group))
             .map_err(|difference| format!("our own reading: {difference}"))?;
         compare(&group, &alone, &list(program, &group)?)?;
         input.extend_from_slice(&group);
@@ -188,7 +188,7 @@ fn every_octet(program: &Path) -> Verdict {
     if answers != [2304 - 301, 0, 31 * 8, 3 * 16, 2, 2, 1] {
         return Err(format!("our own reading answers {answers:?}"));
     }
-    compare(&input, &paper::listing(&input), &list(program, &input)?)?;
+    compare(&input, &codec::listing(&input), &list(program, &input)?)?;
     Ok(format!(
         "0 to 255 in each octet of P1, {} groups: same",
         input.len() / GROUP
@@ -233,8 +233,8 @@ fn addresses(program: &Path) -> Verdict {
                     d,
                     ..groups::fields(&mut draw)
                 };
-                input.extend_from_slice(&paper::write(&fields, draw.octet()));
-                expected.extend_from_slice(paper::line(Ok(fields)).as_bytes());
+                input.extend_from_slice(&codec::octets(&fields, draw.octet()));
+                expected.extend_from_slice(codec::line(Ok(fields)).as_bytes());
             }
         }
     }
@@ -257,7 +257,7 @@ fn random_groups(program: &Path) -> Verdict {
     if accepted < OFTEN || refused.iter().any(|&times| times < OFTEN) {
         return Err(format!("too few of some answer: {answers:?}"));
     }
-    compare(&input, &paper::listing(&input), &list(program, &input)?)?;
+    compare(&input, &codec::listing(&input), &list(program, &input)?)?;
     let seen: Vec<String> = (2..)
         .zip(refused)
         .map(|(refusal, times)| format!("{refusal} ({times})"))
@@ -277,7 +277,7 @@ fn ends_of_input(program: &Path) -> Verdict {
     for count in counts {
         for short in 0..GROUP {
             let mut input = groups::many(count, || groups::mixed(&mut draw));
-            let mut expected = paper::listing(&input);
+            let mut expected = codec::listing(&input);
             if short > 0 {
                 input.extend_from_slice(&P1[..short]);
                 expected.extend_from_slice(b"refused 1\n");
@@ -300,7 +300,7 @@ fn pieces(program: &Path, groups: usize, mut size: impl FnMut() -> usize + Send)
     let mut draw = Draw::from_seed(6);
     let mut input = groups::many(groups, || groups::mixed(&mut draw));
     input.extend_from_slice(&P1[..5]);
-    let expected = paper::listing(&input);
+    let expected = codec::listing(&input);
     for in_step in [false, true] {
         let outcome = run(
             Command::new(program),
@@ -346,20 +346,20 @@ fn live_feed(program: &Path) -> Verdict {
                 handed = step;
                 seen.wait_for(1 + handed / GROUP)?;
                 let whole = &input[..handed / GROUP * GROUP];
-                compare(whole, &paper::listing(whole), &seen.so_far())?;
+                compare(whole, &codec::listing(whole), &seen.so_far())?;
             }
             hand_over(stdin, &P1[..3])
         },
     )?;
     ended_well(&outcome)?;
-    let expected = [&paper::listing(&input)[..], b"refused 1\n"].concat();
+    let expected = [&codec::listing(&input)[..], b"refused 1\n"].concat();
     compare(&input, &expected, &outcome.output)?;
     Ok("each line came while the input was open: same".to_string())
 }
 
 /// The end of a listing that a failed read cut off.
 fn told_read(outcome: &Outcome, input: &[u8], from: &str) -> Result<(), String> {
-    let expected = [&paper::listing(input)[..], b"read failed\n"].concat();
+    let expected = [&codec::listing(input)[..], b"read failed\n"].concat();
     compare(input, &expected, &outcome.output)
         .and_then(|()| told(outcome, "listing: standard input"))
         .map_err(|difference| format!("{from}: {difference}"))
@@ -449,7 +449,7 @@ fn later_write_fails(program: &Path) -> Verdict {
     let socket = |error: std::io::Error| format!("socket: {error}");
     let (theirs, ours) = UnixDatagram::pair().map_err(socket)?;
     ours.set_read_timeout(Some(LIMIT)).map_err(socket)?;
-    let expected = paper::listing(&P1);
+    let expected = codec::listing(&P1);
     let outcome = run(
         Command::new(program),
         Stdio::piped(),
@@ -518,7 +518,7 @@ fn write_calls(program: &Path) -> Verdict {
 
     let (calls, outcome) = calls_of(Command::new(program), source.source()?, sink.sink()?)?;
     ended_well(&outcome)?;
-    compare(&input, &paper::listing(&input), &sink.content()?)?;
+    compare(&input, &codec::listing(&input), &sink.content()?)?;
     let groups = input.len() / GROUP;
     if calls > groups / 1_000 {
         return Err(format!("{calls} for {groups} groups"));

@@ -1,11 +1,15 @@
 //! An independent second program: it tests others against its own reading of
 //! the paper.
 
+mod archive;
 mod bench;
+mod calls;
 mod draw;
+mod gemthatch;
 mod groups;
 mod listing;
 mod paper;
+mod plain;
 mod report;
 mod run;
 mod temp;
@@ -15,7 +19,8 @@ use std::process::ExitCode;
 
 use report::Report;
 
-const USAGE: &str = "usage: second listing PATH | second bench-listing PATH PEER";
+const USAGE: &str = "usage: second archive | second listing PATH | second bench-calls | \
+                     second bench-listing PATH PEER";
 
 /// A path that names the same file whatever the search path says.
 fn program(path: &str) -> PathBuf {
@@ -31,6 +36,12 @@ fn main() -> ExitCode {
             listing::check(&program(path), &mut report);
             report.close()
         }
+        ["archive"] => {
+            let mut report = Report::default();
+            calls::check(&mut report);
+            report.close()
+        }
+        ["bench-calls"] => bench::calls(),
         ["bench-listing", path, peer] => bench::listing(&program(path), &program(peer)),
         ["write-singly", count] => {
             listing::write_singly(count.parse().unwrap_or(0));

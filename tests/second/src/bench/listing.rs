@@ -1,10 +1,11 @@
-//! The listing beside its peers, a plain program and a tuned one. Times, not checks.
+//! The listing beside its peers, a plain program and a tuned one.
 
 use std::fs::OpenOptions;
 use std::path::Path;
-use std::process::{Command, ExitCode, Stdio};
+use std::process::{Command, Stdio};
 use std::time::Instant;
 
+use super::median;
 use crate::draw::Draw;
 use crate::groups;
 use crate::temp::Temp;
@@ -42,11 +43,6 @@ fn time((program, words): Program, source: &Temp, output: Stdio) -> Result<f64, 
     }
 }
 
-fn median(mut times: Vec<f64>) -> f64 {
-    times.sort_by(f64::total_cmp);
-    times[times.len() / 2]
-}
-
 /// One row of the table: the programs by turns, so that a busy spell of the
 /// machine meets all of them.
 fn row(
@@ -74,7 +70,7 @@ fn row(
     Ok(())
 }
 
-fn table(listing: &Path, peer: &Path) -> Result<(), String> {
+pub fn table(listing: &Path, peer: &Path) -> Result<(), String> {
     let source = Temp::holding("bench-groups", &input())?;
     let sinks = [
         Temp::holding("bench-listing", &[])?,
@@ -99,14 +95,4 @@ fn table(listing: &Path, peer: &Path) -> Result<(), String> {
         let null = OpenOptions::new().write(true).open("/dev/null");
         Ok(null.map_err(|error| format!("/dev/null: {error}"))?.into())
     })
-}
-
-pub fn listing(listing: &Path, peer: &Path) -> ExitCode {
-    match table(listing, peer) {
-        Ok(()) => ExitCode::SUCCESS,
-        Err(error) => {
-            eprintln!("second: {error}");
-            ExitCode::FAILURE
-        }
-    }
 }

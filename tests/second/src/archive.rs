@@ -1,0 +1,266 @@
+//! The archive's calls. Each wrapper lends octets inside guards and tells when
+//! a guard, or octets lent for reading alone, have changed.
+
+use std::ptr;
+
+use crate::gemthatch::*;
+use crate::paper::codec::{Fields, GROUP};
+use crate::paper::search::Wish;
+use crate::paper::table::{Measure, Reservation, State};
+
+/// Octets on each side of what is lent. An odd number, so that what is lent
+/// lies at odd places too.
+const GUARD: usize = 33;
+
+/// No two neighbours are the same, so that moved octets show as well.
+fn guard(place: usize) -> u8 {
+    0xA5 ^ place as u8
+}
+
+/// Octets to lend, with a guard on each side.
+#[derive(Clone)]
+pub struct Lent(Vec<u8>);
+
+impl Lent {
+    pub fn holding(octets: &[u8]) -> Lent {
+        let mut buffer = Vec::with_capacity(GUARD + octets.len() + GUARD);
+        buffer.extend((0..GUARD).map(guard));
+        buffer.extend_from_slice(octets);
+        buffer.extend((0..GUARD).map(guard));
+        Lent(buffer)
+    }
+
+    fn length(&self) -> usize {
+        self.0.len() - 2 * GUARD
+    }
+
+    pub fn octets(&self) -> &[u8] {
+        &self.0[GUARD..GUARD + self.length()]
+    }
+
+    pub fn octets_mut(&mut self) -> &mut [u8] {
+        let length = self.length();
+        &mut self.0[GUARD..GUARD + length]
+    }
+
+    fn guarded(&self) -> Result<(), String> {
+        let (before, rest) = self.0.split_at(GUARD);
+        let after = &rest[self.length()..];
+        let whole = |octets: &[u8]| octets.iter().copied().eq((0..GUARD).map(guard));
+        if whole(before) && whole(after) {
+            Ok(())
+        } else {
+            Err(format!(
+                "a guard has changed: {before:02X?} before, {after:02X?} after"
+            ))
+        }
+    }
+}
+
+/// The answer of a call. Nothing at all is also lent by a null pointer and by
+/// one that points nowhere, which have to give the same.
+fn alike<T: PartialEq>(
+    lent: &mut Lent,
+    mut call: impl FnMut(*mut u8, usize) -> T,
+) -> Result<T, String> {
+    let length = lent.length();
+    let answer = call(lent.octets_mut().as_mut_ptr(), length);
+    let others = [ptr::null_mut(), ptr::dangling_mut()];
+    let same = length > 0 || others.into_iter().all(|pointer| call(pointer, 0) == answer);
+    lent.guarded()?;
+    if same {
+        Ok(answer)
+    } else {
+        Err("nothing, lent by another pointer, is answered otherwise".to_string())
+    }
+}
+
+/// The same for what is lent for reading alone.
+fn unchanged<T: PartialEq>(
+    lent: &mut Lent,
+    mut call: impl FnMut(*const u8, usize) -> T,
+) -> Result<T, String> {
+    let before = lent.octets().to_vec();
+    let answer = alike(lent, |pointer, length| call(pointer, length))?;
+    if before == lent.octets() {
+        Ok(answer)
+    } else {
+        Err("octets lent for reading have changed".to_string())
+    }
+}
+
+/// The refusal, 0 where accepted, and the fields.
+pub fn read(group: &[u8]) -> Result<(u32, Fields), String> {
+    unchanged(&mut Lent::holding(group), |octets, length| {
+        // SAFETY: so many octets are lent for the time of the call.
+        let Reading { refusal, block } = unsafe { gemthatch_read(octets, length) };
+        let Block {
+            d,
+            blg,
+            roff,
+            br,
+            bs,
+            bo,
+            bt,
+        } = block;
+        let fields = Fields {
+            d,
+            blg,
+            roff,
+            br,
+            bs,
+            bo,
+            bt,
+        };
+        (refusal, fields)
+    })
+}
+
+/// The refusal, 0 where accepted, and the nine octets.
+pub fn write(fields: &Fields) -> (u32, [u8; GROUP]) {
+    let &Fields {
+        d,
+        blg,
+        roff,
+        br,
+        bs,
+        bo,
+        bt,
+    } = fields;
+    let block = Block {
+        d,
+        blg,
+        roff,
+        br,
+        bs,
+        bo,
+        bt,
+    };
+    // SAFETY: nothing is lent.
+    let Writing { refusal, octets } = unsafe { gemthatch_write(block) };
+    (refusal, octets)
+}
+
+pub fn rate(list: &[u8], code: u32) -> Result<u32, String> {
+    unchanged(&mut Lent::holding(list), |rates, entries| {
+        // SAFETY: so many octets are lent for the time of the call.
+        unsafe { gemthatch_rate(rates, entries, code) }
+    })
+}
+
+pub fn parameter(number: u32, figure: u32) -> u32 {
+    // SAFETY: nothing is lent.
+    unsafe { gemthatch_parameter(number, figure) }
+}
+
+pub fn open(memory: &mut Lent, m1: u32) -> Result<u32, String> {
+    alike(memory, |memory, octets| {
+        // SAFETY: so many octets are lent for the time of the call.
+        unsafe { gemthatch_open(memory, octets, m1) }
+    })
+}
+
+pub fn clock(memory: &mut Lent, state: State, slot: u32) -> Result<u32, String> {
+    let State { m1, now, count } = state;
+    alike(memory, |memory, octets| {
+        // SAFETY: so many octets are lent for the time of the call.
+        unsafe { gemthatch_clock(memory, octets, m1, now, count, slot) }
+    })
+}
+
+pub fn reserve(memory: &mut Lent, state: State, asked: &Reservation) -> Result<u32, String> {
+    let State { m1, now, count } = state;
+    alike(memory, |memory, octets| {
+        // SAFETY: so many octets are lent for the time of the call.
+        unsafe {
+            gemthatch_reserve(
+                memory,
+                octets,
+                m1,
+                now,
+                count,
+                asked.station,
+                asked.rate,
+                asked.superframes,
+                asked.bs,
+                asked.length,
+                asked.distance.kind,
+                asked.distance.a,
+                asked.distance.b,
+                asked.limit,
+            )
+        }
+    })
+}
+
+pub fn distance(memory: &mut Lent, state: State, told: &Measure) -> Result<u32, String> {
+    let State { m1, now, count } = state;
+    alike(memory, |memory, octets| {
+        // SAFETY: so many octets are lent for the time of the call.
+        unsafe {
+            gemthatch_distance(
+                memory,
+                octets,
+                m1,
+                now,
+                count,
+                told.station,
+                told.distance.kind,
+                told.distance.a,
+                told.distance.b,
+                told.limit,
+            )
+        }
+    })
+}
+
+pub fn wipe(memory: &mut Lent, state: State, station: u32) -> Result<u32, String> {
+    let State { m1, now, count } = state;
+    alike(memory, |memory, octets| {
+        // SAFETY: so many octets are lent for the time of the call.
+        unsafe { gemthatch_wipe(memory, octets, m1, now, count, station) }
+    })
+}
+
+pub fn slot_state(memory: &mut Lent, state: State, slot: u32) -> Result<u32, String> {
+    let State { m1, now, count } = state;
+    unchanged(memory, |memory, octets| {
+        // SAFETY: so many octets are lent for the time of the call.
+        unsafe { gemthatch_slot_state(memory, octets, m1, now, count, slot) }
+    })
+}
+
+pub fn search(
+    memory: &mut Lent,
+    state: State,
+    wish: &Wish,
+    list: &mut Lent,
+) -> Result<u32, String> {
+    let State { m1, now, count } = state;
+    unchanged(memory, |memory, octets| {
+        alike(list, |list, list_octets| {
+            // SAFETY: so many octets are lent for the time of the call, and
+            // the two slices lie apart.
+            unsafe {
+                gemthatch_search(
+                    memory,
+                    octets,
+                    m1,
+                    now,
+                    count,
+                    wish.lo,
+                    wish.hi,
+                    wish.length,
+                    wish.wanted,
+                    list,
+                    list_octets,
+                )
+            }
+        })
+    })?
+}
+
+pub fn pick(n: u32, r: u32) -> u32 {
+    // SAFETY: nothing is lent.
+    unsafe { gemthatch_pick(n, r) }
+}

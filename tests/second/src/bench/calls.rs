@@ -1,0 +1,432 @@
+//! Each call of the archive beside a peer written by hand, in one run.
+
+use std::hint::black_box;
+use std::time::{Duration, Instant};
+
+use super::archive::{self, number};
+use super::figures::{three_digits, time, Figures, Side, ROUNDS};
+use super::tables::{Kind, Setting, Table};
+use crate::draw::Draw;
+use crate::gemthatch::REFUSED;
+use crate::plain::{self, Answer, Distance, Range, State, Wish};
+
+const CAPACITIES: [usize; 3] = [2048, 64, 1];
+const FULL: usize = CAPACITIES[0];
+const M1S: [u32; 2] = [4500, 15360];
+
+/// Calls to a batch where they are short: a batch is timed as a whole, and its
+/// memory stays within the nearest cache.
+const BATCH: usize = 256;
+
+/// A call that takes longer is a batch by itself.
+const LONG: Duration = Duration::from_micros(100);
+
+/// Where calls are so long that not all inputs are gone through in this time,
+/// only those that were are timed.
+const LONGEST: Duration = Duration::from_secs(1);
+
+/// What a list holds before a search.
+const RUBBISH: u8 = 0xA5;
+
+/// One call with all that it is given.
+struct Input<A> {
+    memory: Vec<u8>,
+    state: State,
+    list: usize,
+    asked: A,
+}
+
+impl<A> Input<A> {
+    fn new(table: &Table, asked: A) -> Self {
+        Input {
+            memory: table.memory(),
+            state: table.state(),
+            list: 0,
+            asked,
+        }
+    }
+}
+
+/// What a call may change.
+#[derive(PartialEq)]
+struct Lent {
+    memory: Vec<u8>,
+    list: Vec<u8>,
+}
+
+impl Lent {
+    fn to<A>(input: &Input<A>) -> Self {
+        Lent {
+            memory: input.memory.clone(),
+            list: vec![RUBBISH; input.list],
+        }
+    }
+
+    fn restore<A>(&mut self, input: &Input<A>) {
+        self.memory.copy_from_slice(&input.memory);
+        if !self.list.is_empty() {
+            self.list.fill(RUBBISH);
+        }
+    }
+}
+
+/// One of the two programs: it gives its answer as the archive does.
+trait Program<A>: Fn(&mut Lent, &Input<A>) -> u32 {}
+impl<A, F: Fn(&mut Lent, &Input<A>) -> u32> Program<A> for F {}
+
+/// Nanoseconds for a batch of calls on memory restored before.
+fn time_batch<A>(inputs: &[Input<A>], lent: &mut [Lent], program: &impl Program<A>) -> f64 {
+    for (lent, input) in lent.iter_mut().zip(inputs) {
+        lent.restore(input);
+    }
+    time(|| {
+        for (lent, input) in lent.iter_mut().zip(inputs) {
+            black_box(program(black_box(lent), black_box(input)));
+        }
+    })
+}
+
+/// Both must give the same answer, one that is `meant`, and leave the same
+/// octets. Gives the number of inputs compared: it stops after a while.
+fn compare<A>(
+    inputs: &[Input<A>],
+    archive: &impl Program<A>,
+    plain: &impl Program<A>,
+    meant: impl Fn(u32) -> bool,
+) -> Result<usize, String> {
+    let start = Instant::now();
+    for (place, input) in inputs.iter().enumerate() {
+        if start.elapsed() > LONGEST {
+            return Ok(place);
+        }
+        let (mut one, mut other) = (Lent::to(input), Lent::to(input));
+        let (given, expected) = (archive(&mut one, input), plain(&mut other, input));
+        if given != expected {
+            return Err(format!("input {place}: archive {given}, plain {expected}"));
+        }
+        if one != other {
+            return Err(format!("input {place}: the octets left differ"));
+        }
+        if !meant(given) {
+            return Err(format!("input {place}: an answer of {given} isn't meant"));
+        }
+    }
+    Ok(inputs.len())
+}
+
+/// Times both on the inputs on which they were found to agree.
+fn measure<A>(
+    inputs: &[Input<A>],
+    archive: impl Program<A>,
+    plain: impl Program<A>,
+    meant: impl Fn(u32) -> bool,
+) -> Result<Figures, String> {
+    let start = Instant::now();
+    let compared = compare(inputs, &archive, &plain, meant)?;
+    let inputs = &inputs[..compared];
+    let size = match start.elapsed() > LONG * compared as u32 {
+        true => 1,
+        false => (FULL * 12 / inputs[0].memory.len()).min(BATCH),
+    };
+    let mut lent: Vec<Lent> = inputs[..size].iter().map(Lent::to).collect();
+    Ok(Figures::by_turns(size, |side, number| {
+        let start = number % (inputs.len() / size) * size;
+        let batch = &inputs[start..start + size];
+        match side {
+            Side::Archive => time_batch(batch, &mut lent, &archive),
+            Side::Plain => time_batch(batch, &mut lent, &plain),
+        }
+    }))
+}
+
+fn accepted(answer: u32) -> bool {
+    answer < REFUSED
+}
+
+fn any_distance(draw: &mut Draw) -> Distance {
+    let mut part = || f64::from(draw.below(4000)) / 10.0;
+    let (a, b) = (part(), part());
+    Distance {
+        kind: draw.below(3),
+        a,
+        b,
+    }
+}
+
+const LIMIT: f64 = 150.0;
+
+/// Many inputs, each from a table of its own.
+fn inputs<A>(setting: Setting, asked: impl Fn(Table, &mut Draw) -> Input<A>) -> Vec<Input<A>> {
+    let mut draw = Draw::from_seed(u64::from(setting.m1));
+    let tables = (16 * FULL / setting.capacity).min(16 * BATCH);
+    (0..tables)
+        .map(|_| asked(Table::full(setting, &mut draw), &mut draw))
+        .collect()
+}
+
+fn open(setting: Setting) -> Result<Figures, String> {
+    let inputs = inputs(setting, |table, _| Input::new(&table, ()));
+    measure(
+        &inputs,
+        |lent, input| archive::open(&mut lent.memory, input.state.m1),
+        |lent, input| number(plain::open(&mut lent.memory, input.state.m1)),
+        accepted,
+    )
+}
+
+fn wish(table: &Table, draw: &mut Draw) -> Wish {
+    Wish {
+        station: draw.one_of(&table.stations),
+        rate: 1 + draw.below(60),
+        superframes: 1 + draw.below(3),
+        bs: 2 + draw.below(254),
+        length: 1 + draw.below(32),
+        distance: any_distance(draw),
+        limit: LIMIT,
+    }
+}
+
+fn time_reserve(inputs: &[Input<Wish>], meant: impl Fn(u32) -> bool) -> Result<Figures, String> {
+    measure(
+        inputs,
+        |lent, input| archive::reserve(&mut lent.memory, input.state, &input.asked),
+        |lent, input| number(plain::reserve(&mut lent.memory, input.state, &input.asked)),
+        meant,
+    )
+}
+
+/// One more record where one place is free.
+fn reserve_new(setting: Setting) -> Result<Figures, String> {
+    let inputs = inputs(setting, |mut table, draw| {
+        table.records.pop();
+        // A wish that is held already would be refused.
+        loop {
+            let wish = wish(&table, draw);
+            let held = table.records.iter().any(|record| {
+                record.station == wish.station && record.first == table.now + wish.bs
+            });
+            if !held {
+                return Input::new(&table, wish);
+            }
+        }
+    });
+    time_reserve(&inputs, accepted)
+}
+
+/// The last record once more: refused 16.
+fn reserve_held(setting: Setting) -> Result<Figures, String> {
+    let inputs = inputs(setting, |mut table, draw| {
+        let wish = wish(&table, draw);
+        let last = table.records.last_mut().unwrap();
+        last.station = wish.station;
+        last.first = table.now + wish.bs;
+        last.rate = wish.rate;
+        last.superframes = wish.superframes;
+        last.length = wish.length;
+        Input::new(&table, wish)
+    });
+    time_reserve(&inputs, |answer| answer == REFUSED + 16)
+}
+
+fn distance(setting: Setting) -> Result<Figures, String> {
+    let inputs = inputs(setting, |table, draw| {
+        let station = draw.one_of(&table.stations);
+        Input::new(&table, (station, any_distance(draw), LIMIT))
+    });
+    measure(
+        &inputs,
+        |lent, input| {
+            let (station, distance, limit) = input.asked;
+            archive::distance(&mut lent.memory, input.state, station, distance, limit)
+        },
+        |lent, input| {
+            let (station, distance, limit) = input.asked;
+            number(plain::distance(
+                &mut lent.memory,
+                input.state,
+                station,
+                distance,
+                limit,
+            ))
+        },
+        accepted,
+    )
+}
+
+fn wipe(setting: Setting) -> Result<Figures, String> {
+    let inputs = inputs(setting, |table, draw| {
+        Input::new(&table, draw.one_of(&table.stations))
+    });
+    measure(
+        &inputs,
+        |lent, input| archive::wipe(&mut lent.memory, input.state, input.asked),
+        |lent, input| number(plain::wipe(&mut lent.memory, input.state, input.asked)),
+        accepted,
+    )
+}
+
+fn time_clock(inputs: &[Input<u32>], meant: impl Fn(u32) -> bool) -> Result<Figures, String> {
+    measure(
+        inputs,
+        |lent, input| archive::clock(&mut lent.memory, input.state, input.asked),
+        |lent, input| number(plain::clock(&mut lent.memory, input.state, input.asked)),
+        meant,
+    )
+}
+
+/// Of a single record, one in ten goes.
+fn clock_tenth(setting: Setting) -> Result<Figures, String> {
+    let inputs = inputs(setting, |table, draw| {
+        let slots = table.last_slots();
+        let gone = (slots.len() + draw.below(10) as usize) / 10;
+        let slot = slots
+            .get(gone)
+            .copied()
+            .unwrap_or_else(|| slots[gone - 1] + 1);
+        Input::new(&table, slot)
+    });
+    time_clock(&inputs, accepted)
+}
+
+fn clock_none(setting: Setting) -> Result<Figures, String> {
+    let inputs = inputs(setting, |table, _| {
+        Input::new(&table, table.last_slots()[0])
+    });
+    time_clock(&inputs, |answer| answer == 0)
+}
+
+fn slot_state(setting: Setting, peer: fn(&[u8], State, u32) -> Answer) -> Result<Figures, String> {
+    let inputs = inputs(setting, |table, draw| {
+        Input::new(&table, table.now + draw.below(setting.m1))
+    });
+    measure(
+        &inputs,
+        |lent, input| archive::slot_state(&lent.memory, input.state, input.asked),
+        |lent, input| number(peer(&lent.memory, input.state, input.asked)),
+        accepted,
+    )
+}
+
+fn slot_state_in_turn(setting: Setting) -> Result<Figures, String> {
+    slot_state(setting, plain::slot_state_in_turn)
+}
+
+fn slot_state_dividing(setting: Setting) -> Result<Figures, String> {
+    slot_state(setting, plain::slot_state_dividing)
+}
+
+fn search(setting: Setting, range: impl Fn(&Table, &mut Draw) -> Range) -> Result<Figures, String> {
+    let inputs = inputs(setting, |table, draw| {
+        let range = range(&table, draw);
+        Input {
+            list: range.wanted as usize * 4,
+            ..Input::new(&table, range)
+        }
+    });
+    measure(
+        &inputs,
+        |lent, input| archive::search(&lent.memory, input.state, &input.asked, &mut lent.list),
+        |lent, input| {
+            number(plain::search(
+                &lent.memory,
+                input.state,
+                &input.asked,
+                &mut lent.list,
+            ))
+        },
+        |answer| accepted(answer) || answer == REFUSED + 21,
+    )
+}
+
+fn search_whole(setting: Setting) -> Result<Figures, String> {
+    search(setting, |table, _| Range {
+        lo: table.now,
+        hi: table.now + setting.m1 - 1,
+        length: 32,
+        wanted: 16,
+    })
+}
+
+fn search_small(setting: Setting) -> Result<Figures, String> {
+    search(setting, |table, draw| {
+        let lo = table.now + draw.below(setting.m1 - 100);
+        Range {
+            lo,
+            hi: lo + 99,
+            length: 3,
+            wanted: 3,
+        }
+    })
+}
+
+type Bench = fn(Setting) -> Result<Figures, String>;
+
+const CALLS: [(&str, Bench); 11] = [
+    ("open", open),
+    ("reserve, new", reserve_new),
+    ("reserve, held", reserve_held),
+    ("distance", distance),
+    ("wipe", wipe),
+    ("clock, a tenth goes", clock_tenth),
+    ("clock, none goes", clock_none),
+    ("slot state / in turn", slot_state_in_turn),
+    ("slot state / dividing", slot_state_dividing),
+    ("search, whole", search_whole),
+    ("search, small", search_small),
+];
+
+/// Prints the ratios of a call, and gives the worst of them on full tables. Adds
+/// a note on those that come from fewer rounds than the others.
+fn rows(name: &str, bench: Bench, notes: &mut Vec<String>) -> Result<f64, String> {
+    let mut worst = 0.0_f64;
+    for capacity in CAPACITIES {
+        for kind in Kind::ALL {
+            // What an opening finds makes no difference.
+            if name == "open" && kind != Kind::ALL[0] {
+                continue;
+            }
+            let kind_name = kind.name();
+            let mut line = format!("| {name:<21} | {capacity:>7} | {kind_name:<6} |");
+            for m1 in M1S {
+                let figures = bench(Setting { kind, capacity, m1 })
+                    .map_err(|error| format!("{line} M1 {m1}: {error}"))?;
+                if capacity == FULL {
+                    worst = worst.max(figures.ratio);
+                }
+                if figures.rounds < ROUNDS {
+                    notes.push(format!(
+                        "{name}, {capacity} records, {kind_name}, M1 {m1}: {} rounds",
+                        figures.rounds
+                    ));
+                }
+                line += &format!(" {figures} |");
+            }
+            println!("{line}");
+        }
+    }
+    Ok(worst)
+}
+
+pub fn table() -> Result<(), String> {
+    println!("Calls on a table, at two lengths of the superframe:\n");
+    println!(
+        "| {:<21} | records | {:<6} | {:>8} | {:>8} | {:>5} | {:>8} | {:>8} | {:>5} |",
+        "call", "table", "M1 4500", "plain", "ratio", "M1 15360", "plain", "ratio"
+    );
+    println!("|---|---:|---|---:|---:|---:|---:|---:|---:|");
+    let (mut worst, mut notes) = (Vec::new(), Vec::new());
+    for (name, bench) in CALLS {
+        worst.push((name, rows(name, bench, &mut notes)?));
+    }
+    if !notes.is_empty() {
+        println!("\nToo long for all {ROUNDS} rounds, and for all tables:\n");
+        notes.iter().for_each(|note| println!("- {note}"));
+    }
+    println!("\nThe worst ratio of each call on full tables:\n");
+    println!("| {:<21} | {:>5} |", "call", "ratio");
+    println!("|---|---:|");
+    for (name, ratio) in worst {
+        println!("| {name:<21} | {:>5} |", three_digits(ratio));
+    }
+    Ok(())
+}

@@ -1,0 +1,153 @@
+//! The calls without a table.
+
+use std::hint::black_box;
+
+use super::archive::{self, number};
+use super::figures::{time, Figures, Side};
+use crate::draw::Draw;
+use crate::gemthatch::Block;
+use crate::groups;
+use crate::plain;
+
+/// Different inputs of a call.
+const INPUTS: usize = 65536;
+
+/// Few enough to stay within the nearest cache.
+const BATCH: usize = 1024;
+
+/// One input in sixteen is spoilt.
+fn spoilt(draw: &mut Draw) -> bool {
+    draw.below(16) == 0
+}
+
+/// Times two functions over the same inputs, once all their answers agree. A
+/// slice goes to them through a black box, or the peer would be compiled for the
+/// one length it meets.
+fn measure<I, A: PartialEq>(
+    input: impl Fn(&mut Draw) -> I,
+    archive: impl Fn(&I) -> A,
+    plain: impl Fn(&I) -> A,
+) -> Result<Figures, String> {
+    let mut draw = Draw::from_seed(11);
+    let inputs: Vec<I> = (0..INPUTS).map(|_| input(&mut draw)).collect();
+    if let Some(place) = inputs.iter().position(|i| archive(i) != plain(i)) {
+        return Err(format!("input {place}: the answers differ"));
+    }
+    Ok(Figures::by_turns(BATCH, |side, number| {
+        let start = number * BATCH % INPUTS;
+        let batch = &inputs[start..start + BATCH];
+        time(|| match side {
+            Side::Archive => batch.iter().for_each(|input| {
+                black_box(&archive(black_box(input)));
+            }),
+            Side::Plain => batch.iter().for_each(|input| {
+                black_box(&plain(black_box(input)));
+            }),
+        })
+    }))
+}
+
+fn read() -> Result<Figures, String> {
+    measure(
+        |draw| {
+            let mut group = groups::accepted(draw);
+            if spoilt(draw) {
+                let refusal = 2 + draw.below(5);
+                groups::spoil(&mut group, refusal, draw);
+            }
+            group
+        },
+        |group| archive::read(black_box(group)),
+        |group| plain::read(black_box(group)),
+    )
+}
+
+fn write() -> Result<Figures, String> {
+    measure(
+        |draw| {
+            let fields = groups::fields(draw);
+            let mut block = Block {
+                d: fields.d,
+                blg: fields.blg,
+                roff: fields.roff,
+                br: fields.br,
+                bs: fields.bs,
+                bo: fields.bo,
+                bt: fields.bt,
+            };
+            if spoilt(draw) {
+                match draw.below(7) {
+                    0 => block.d += 1 << 27,
+                    1 => block.blg += 32,
+                    2 => block.bt += 4,
+                    3 => block.br = draw.one_of(&[7, 14, 15, 16]),
+                    4 => block.roff = draw.one_of(&[0, 1, 256]),
+                    5 => block.bs = draw.one_of(&[0, 1, 256]),
+                    _ => block.bo = draw.one_of(&[-128, 128]),
+                }
+            }
+            block
+        },
+        |&block| archive::write(block),
+        |&block| plain::write(block),
+    )
+}
+
+/// 004's Table 1-33.
+const RATES: [u8; 16] = [1, 2, 3, 4, 5, 6, 8, 0, 10, 12, 15, 20, 30, 60, 0, 0];
+
+fn rate() -> Result<Figures, String> {
+    measure(
+        |draw| {
+            let mut rates = RATES;
+            if spoilt(draw) {
+                rates[draw.below(16) as usize] = draw.octet();
+            }
+            (rates, draw.below(16))
+        },
+        |&(ref rates, code)| archive::rate(black_box(rates), code),
+        |&(ref rates, code)| number(plain::rate(black_box(rates), code)),
+    )
+}
+
+fn parameter() -> Result<Figures, String> {
+    measure(
+        |draw| {
+            let (row, figure) = match draw.below(3) {
+                0 => (1, 60 * (1 + draw.below(256))),
+                1 => (2, 1 + draw.below(256)),
+                _ => (3, 1 + draw.below(65536)),
+            };
+            match spoilt(draw) {
+                true => (draw.below(5), figure + draw.below(60)),
+                false => (row, figure),
+            }
+        },
+        |&(row, figure)| archive::parameter(row, figure),
+        |&(row, figure)| number(plain::parameter(row, figure)),
+    )
+}
+
+type Bench = fn() -> Result<Figures, String>;
+
+const CALLS: [(&str, Bench); 4] = [
+    ("read", read),
+    ("write", write),
+    ("rate", rate),
+    ("parameter", parameter),
+];
+
+pub fn table() -> Result<(), String> {
+    println!("Calls without a table, most of them accepted:\n");
+    println!(
+        "| {:<21} | {:>8} | {:>8} | {:>5} |",
+        "call", "archive", "plain", "ratio"
+    );
+    println!("|---|---:|---:|---:|");
+    for (name, bench) in CALLS {
+        let figures = bench().map_err(|error| format!("{name}: {error}"))?;
+        println!("| {name:<21} | {figures} |");
+    }
+    println!();
+    Ok(())
+}

@@ -1,0 +1,36 @@
+//! Times, not checks: what was built beside peers written by hand.
+
+mod archive;
+mod calls;
+mod codec;
+mod figures;
+mod listing;
+mod tables;
+
+use std::path::Path;
+use std::process::ExitCode;
+
+fn median(mut numbers: Vec<f64>) -> f64 {
+    numbers.sort_by(f64::total_cmp);
+    numbers[numbers.len() / 2]
+}
+
+fn close(done: Result<(), String>) -> ExitCode {
+    match done {
+        Ok(()) => ExitCode::SUCCESS,
+        Err(error) => {
+            eprintln!("second: {error}");
+            ExitCode::FAILURE
+        }
+    }
+}
+
+/// The listing beside its peers.
+pub fn listing(listing: &Path, peer: &Path) -> ExitCode {
+    close(listing::table(listing, peer))
+}
+
+/// Each call of the archive beside its peer.
+pub fn calls() -> ExitCode {
+    close(codec::table().and_then(|()| calls::table()))
+}

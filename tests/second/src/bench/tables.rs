@@ -1,0 +1,117 @@
+//! Sound tables of several kinds for the calls.
+
+use crate::draw::Draw;
+use crate::plain::{Record, State};
+
+#[derive(Clone, Copy, PartialEq)]
+pub enum Kind {
+    /// Any rate, superframes and length, all near.
+    Near,
+    /// The same, all far.
+    Far,
+    /// The same, half of them far.
+    Mixed,
+    /// One slot each, all near.
+    Sparse,
+    /// As many blocks as there can be, all near and of one slot, on the same
+    /// few slots: nearly all others are free.
+    Comb,
+}
+
+impl Kind {
+    pub const ALL: [Kind; 5] = [Kind::Near, Kind::Far, Kind::Mixed, Kind::Sparse, Kind::Comb];
+
+    pub fn name(self) -> &'static str {
+        match self {
+            Kind::Near => "near",
+            Kind::Far => "far",
+            Kind::Mixed => "mixed",
+            Kind::Sparse => "sparse",
+            Kind::Comb => "comb",
+        }
+    }
+}
+
+/// What the tables of a row have in common.
+#[derive(Clone, Copy)]
+pub struct Setting {
+    pub kind: Kind,
+    pub capacity: usize,
+    pub m1: u32,
+}
+
+/// Stations in a table, each with its share of the records.
+const STATIONS: usize = 16;
+
+pub struct Table {
+    pub setting: Setting,
+    pub now: u32,
+    pub stations: [u32; STATIONS],
+    pub records: Vec<Record>,
+}
+
+impl Table {
+    /// A full table.
+    pub fn full(setting: Setting, draw: &mut Draw) -> Self {
+        let mut table = Table {
+            setting,
+            now: 1_000_000 + draw.below(900_000_000),
+            stations: std::array::from_fn(|_| draw.below(1 << 27)),
+            records: Vec::new(),
+        };
+        for _ in 0..setting.capacity {
+            let record = table.record(draw);
+            table.records.push(record);
+        }
+        table
+    }
+
+    /// A record that is held now.
+    fn record(&self, draw: &mut Draw) -> Record {
+        let Setting { kind, m1, .. } = self.setting;
+        let mut record = Record {
+            station: draw.one_of(&self.stations),
+            first: 0,
+            rate: 1 + draw.below(60),
+            superframes: 1 + draw.below(3),
+            length: 1 + draw.below(32),
+            far: u8::from(kind == Kind::Far || kind == Kind::Mixed && draw.below(2) == 0),
+        };
+        if kind == Kind::Sparse {
+            (record.rate, record.superframes, record.length) = (1, 1, 1);
+        }
+        if kind == Kind::Comb {
+            (record.rate, record.superframes, record.length) = (60, 3, 1);
+        }
+        record.first = match kind {
+            Kind::Sparse => self.now + draw.below(m1),
+            Kind::Comb => self.now - m1 / 60 * draw.below(60),
+            _ => self.now + 255 - draw.below(256 + record.last(m1)),
+        };
+        record
+    }
+
+    pub fn state(&self) -> State {
+        State {
+            m1: self.setting.m1,
+            now: self.now,
+            count: self.records.len() as u32,
+        }
+    }
+
+    pub fn memory(&self) -> Vec<u8> {
+        let mut memory = vec![0; self.setting.capacity * 12];
+        for (record, octets) in self.records.iter().zip(memory.chunks_exact_mut(12)) {
+            record.write(octets);
+        }
+        memory
+    }
+
+    /// The last slots of all records, ascending.
+    pub fn last_slots(&self) -> Vec<u32> {
+        let last = |record: &Record| record.last(self.setting.m1);
+        let mut slots: Vec<u32> = self.records.iter().map(last).collect();
+        slots.sort_unstable();
+        slots
+    }
+}

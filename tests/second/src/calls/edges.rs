@@ -1,0 +1,348 @@
+//! Both sides of each edge of each number of each call. The answers stand here
+//! as the paper has them; our own reading has to give them as well.
+
+use super::expect;
+use super::near::FAR;
+use super::pair::{Channel, Pair};
+use crate::archive::Lent;
+use crate::groups::P1;
+use crate::paper::codec::{Fields, TABLE_1_33};
+use crate::paper::distance::UNKNOWN;
+use crate::paper::search::Wish;
+use crate::paper::table::{Measure, Record, Reservation, State, RECORD};
+use crate::paper::{Answer, LATEST, STATIONS};
+use crate::report::Verdict;
+
+/// The greatest number that a call takes.
+const MAX: u32 = u32::MAX;
+
+/// A refusal, 0 for none, and numbers that have to give it, for both sides of
+/// each edge.
+pub type Sides<'a> = &'a [(u32, &'a [u32])];
+
+pub const STATION: Sides = &[
+    (0, &[0, 1, STATIONS - 1]),
+    (8, &[STATIONS, STATIONS + 1, MAX]),
+];
+
+/// As the parameter check and open have it.
+pub const M1: Sides = &[
+    (0, &[60, 120, 4_500, 15_300, 15_360]),
+    (10, &[0, 1, 59, 61, 119, 121, 15_359, 15_361, 15_420]),
+    (10, &[256 + 60, 65_536 + 60, 1 << 31, MAX]),
+];
+
+/// In octets.
+pub const MEMORY: Sides = &[
+    (0, &[12, 24, 24_564, 24_576]),
+    (1, &[0, 1, 11, 13, 23, 25, 24_575, 24_577, 24_588, 49_152]),
+];
+
+/// The limit's, among them the number below 0 that lies nearest to it.
+const LIMITS: [(u32, &[f64]); 2] = [
+    (0, &[0.0, -0.0, 150.0, 4096.0, 4096.0_f64.next_down()]),
+    (
+        18,
+        &[
+            -f64::from_bits(1),
+            -1.0,
+            4096.0_f64.next_up(),
+            f64::INFINITY,
+            f64::NEG_INFINITY,
+            f64::NAN,
+        ],
+    ),
+];
+
+/// Tries each number of one kind and counts it.
+fn each<T: Copy + std::fmt::Debug>(
+    tried: &mut usize,
+    what: &str,
+    sides: &[(u32, &[T])],
+    mut call: impl FnMut(T) -> Result<Answer, String>,
+) -> Result<(), String> {
+    for &(refusal, numbers) in sides {
+        for &number in numbers {
+            let given = call(number)?.err().unwrap_or(0);
+            expect(&format!("{what} {number:?}"), refusal, given)?;
+            *tried += 1;
+        }
+    }
+    Ok(())
+}
+
+/// One record, at clock 100: slots 105 to 109 and so on are reserved.
+pub const T: Record = Record {
+    station: 1,
+    first: 105,
+    rate: 3,
+    superframes: 2,
+    length: 5,
+    far: 0,
+};
+
+pub const STATE: State = State {
+    m1: 4500,
+    now: 100,
+    count: 1,
+};
+
+/// A table of one record, with room for more or not.
+pub fn table(record: Record, state: State, capacity: usize) -> Channel {
+    let mut octets = record.octets();
+    octets.resize(capacity * RECORD, 0);
+    Channel::holding(&octets, state)
+}
+
+fn codec(pair: &mut Pair, tried: &mut usize) -> Result<(), String> {
+    let base = Fields {
+        d: 1,
+        blg: 4,
+        roff: 2,
+        br: 3,
+        bs: 5,
+        bo: -2,
+        bt: 2,
+    };
+    let mut write = |fields: Fields| pair.write(&fields).map(|answer| answer.map(|_| 0));
+    each(tried, "write, d", STATION, |d| write(Fields { d, ..base }))?;
+    let sides: Sides = &[(0, &[0, 31]), (9, &[32, 256, MAX])];
+    each(tried, "write, blg", sides, |blg| {
+        write(Fields { blg, ..base })
+    })?;
+    let sides: Sides = &[(0, &[0, 3]), (9, &[4, 256, MAX])];
+    each(tried, "write, bt", sides, |bt| write(Fields { bt, ..base }))?;
+    let codes: Sides = &[(0, &[0, 6, 8, 13]), (3, &[7, 14, 15, 16, 17, 256, MAX])];
+    each(tried, "write, br", codes, |br| write(Fields { br, ..base }))?;
+    let sides: Sides = &[(0, &[2, 3, 254, 255]), (4, &[0, 1, 256, 258, MAX])];
+    each(tried, "write, roff", sides, |roff| {
+        write(Fields { roff, ..base })
+    })?;
+    let sides: Sides = &[(0, &[2, 3, 254, 255]), (5, &[0, 1, 256, 258, MAX])];
+    each(tried, "write, bs", sides, |bs| write(Fields { bs, ..base }))?;
+    let sides: [(u32, &[i32]); 2] = [
+        (0, &[-127, -1, 0, 127]),
+        (6, &[-129, -128, 128, 129, 254, i32::MIN, i32::MAX]),
+    ];
+    each(tried, "write, bo", &sides, |bo| {
+        write(Fields { bo, ..base })
+    })?;
+    let sides: Sides = &[(0, &[9]), (1, &[0, 1, 8, 10, 18])];
+    each(tried, "read, octets", sides, |length| {
+        let group = [P1, P1].concat();
+        let reading = pair.read(&group[..length as usize])?;
+        Ok(reading.map(|_| 0))
+    })?;
+    let sides: Sides = &[(0, &[16]), (7, &[0, 1, 15, 17, 32])];
+    each(tried, "rate, entries", sides, |length| {
+        let list = [TABLE_1_33, [0; 16]].concat();
+        pair.rate(&list[..length as usize], 0)
+    })?;
+    each(tried, "rate, code", codes, |code| {
+        pair.rate(&TABLE_1_33, code)
+    })?;
+    let sides: Sides = &[(0, &[1, 2, 3]), (22, &[0, 4, 256 + 1, MAX])];
+    each(tried, "parameter, number", sides, |number| {
+        pair.parameter(number, 60)
+    })?;
+    each(tried, "M1", M1, |figure| pair.parameter(1, figure))?;
+    let sides: Sides = &[(0, &[1, 2, 255, 256]), (10, &[0, 257, MAX])];
+    each(tried, "M2inc", sides, |figure| pair.parameter(2, figure))?;
+    let sides: Sides = &[(0, &[1, 2, 65_535, 65_536]), (10, &[0, 65_537, MAX])];
+    each(tried, "M2limit", sides, |figure| pair.parameter(3, figure))?;
+    let sides: Sides = &[(0, &[1, 2, 15, 16]), (20, &[0, 17, 256 + 1, MAX])];
+    each(tried, "pick, n", sides, |n| pair.pick(n, 5))
+}
+
+fn reserve(pair: &mut Pair, tried: &mut usize) -> Result<(), String> {
+    let base = Reservation {
+        station: 2,
+        rate: 3,
+        superframes: 2,
+        bs: 5,
+        length: 5,
+        distance: UNKNOWN,
+        limit: 150.0,
+    };
+    let mut ask =
+        |asked: Reservation, capacity: usize| pair.reserve(&mut table(T, STATE, capacity), &asked);
+    each(tried, "reserve, station", STATION, |station| {
+        // Station 1 holds T itself.
+        let elsewhere = Reservation { bs: 6, ..base };
+        ask(
+            Reservation {
+                station,
+                ..elsewhere
+            },
+            3,
+        )
+    })?;
+    let sides: Sides = &[(0, &[1, 59, 60]), (14, &[0, 61, 256 + 3, MAX])];
+    each(tried, "reserve, rate", sides, |rate| {
+        ask(Reservation { rate, ..base }, 3)
+    })?;
+    let sides: Sides = &[(0, &[1, 2, 3]), (15, &[0]), (9, &[4, 256 + 2, MAX])];
+    each(tried, "reserve, superframes", sides, |superframes| {
+        let asked = Reservation {
+            superframes,
+            ..base
+        };
+        ask(asked, 3)
+    })?;
+    let sides: Sides = &[(0, &[1, 31, 32]), (9, &[0, 33, 256 + 5, MAX])];
+    each(tried, "reserve, length", sides, |length| {
+        ask(Reservation { length, ..base }, 3)
+    })?;
+    let sides: Sides = &[(0, &[2, 3, 254, 255]), (5, &[0, 1, 256, 256 + 5, MAX])];
+    each(tried, "reserve, bs", sides, |bs| {
+        ask(Reservation { bs, ..base }, 3)
+    })?;
+    each(tried, "reserve, limit", &LIMITS, |limit| {
+        ask(Reservation { limit, ..base }, 3)
+    })?;
+    let sides: Sides = &[(0, &[2, 3, 2_048]), (17, &[1])];
+    each(tried, "reserve, capacity", sides, |capacity| {
+        ask(base, capacity as usize)
+    })?;
+    // T again, which is held, and T with one number changed.
+    let again = Reservation { station: 1, ..base };
+    let held = [
+        again,
+        Reservation {
+            distance: FAR,
+            ..again
+        },
+    ];
+    let not_held = [
+        Reservation {
+            station: 0,
+            ..again
+        },
+        Reservation { bs: 4, ..again },
+        Reservation { rate: 2, ..again },
+        Reservation {
+            superframes: 1,
+            ..again
+        },
+        Reservation { length: 4, ..again },
+    ];
+    let sides: [(u32, &[Reservation]); 2] = [(16, &held), (0, &not_held)];
+    each(tried, "reserve", &sides, |asked| ask(asked, 2))
+}
+
+/// Clock, distance, wipe and slot state.
+fn changes(pair: &mut Pair, tried: &mut usize) -> Result<(), String> {
+    let alone = || table(T, STATE, 1);
+    let measure = |station, limit| Measure {
+        station,
+        distance: UNKNOWN,
+        limit,
+    };
+    each(tried, "distance, station", STATION, |station| {
+        pair.distance(&mut alone(), &measure(station, 150.0))
+    })?;
+    each(tried, "distance, limit", &LIMITS, |limit| {
+        pair.distance(&mut alone(), &measure(1, limit))
+    })?;
+    each(tried, "wipe, station", STATION, |station| {
+        pair.wipe(&mut alone(), station)
+    })?;
+    let sides: Sides = &[
+        (12, &[0, 1, 99]),
+        (0, &[100, 101, LATEST - 1, LATEST]),
+        (13, &[LATEST + 1, MAX]),
+    ];
+    each(tried, "clock", sides, |slot| pair.clock(&mut alone(), slot))?;
+    each(tried, "slot state", sides, |slot| {
+        pair.slot_state(&mut alone(), slot)
+    })?;
+    // Now at the latest slot: the same again, and no other.
+    let end = State {
+        now: LATEST,
+        ..STATE
+    };
+    let late = || table(Record { first: LATEST, ..T }, end, 1);
+    let sides: Sides = &[
+        (12, &[0, LATEST - 1]),
+        (0, &[LATEST]),
+        (13, &[LATEST + 1, MAX]),
+    ];
+    each(tried, "clock at the end", sides, |slot| {
+        pair.clock(&mut late(), slot)
+    })?;
+    each(tried, "slot state at the end", sides, |slot| {
+        pair.slot_state(&mut late(), slot)
+    })
+}
+
+fn search(pair: &mut Pair, tried: &mut usize) -> Result<(), String> {
+    let base = Wish {
+        lo: 200,
+        hi: 210,
+        length: 2,
+        wanted: 3,
+    };
+    let mut ask = |wish: Wish, octets: u32| {
+        let mut list = Lent::holding(&vec![0xEE; octets as usize]);
+        pair.search(&mut table(T, STATE, 1), &wish, &mut list)
+    };
+    let sides: Sides = &[(0, &[100, 101, 209, 210]), (19, &[0, 99, 211, MAX])];
+    each(tried, "search, lo", sides, |lo| {
+        ask(Wish { lo, ..base }, 12)
+    })?;
+    // At most M1 - 1 later than lo.
+    let sides: Sides = &[(0, &[200, 201, 4698, 4699]), (19, &[0, 199, 4700, MAX])];
+    each(tried, "search, hi", sides, |hi| {
+        ask(Wish { hi, ..base }, 12)
+    })?;
+    let sides: Sides = &[(0, &[LATEST - 1, LATEST]), (19, &[LATEST + 1, MAX])];
+    each(tried, "search to the end", sides, |hi| {
+        let lo = LATEST - 1;
+        ask(Wish { lo, hi, ..base }, 12)
+    })?;
+    each(tried, "search past the end", sides, |hi| {
+        ask(Wish { lo: hi, hi, ..base }, 12)
+    })?;
+    let sides: Sides = &[(0, &[1, 31, 32]), (9, &[0, 33, 256 + 2, MAX])];
+    each(tried, "search, length", sides, |length| {
+        ask(Wish { length, ..base }, 12)
+    })?;
+    let sides: Sides = &[(0, &[1, 2, 15, 16]), (20, &[0, 17, 256 + 3, MAX])];
+    each(tried, "search, wanted", sides, |wanted| {
+        ask(Wish { wanted, ..base }, 1_200)
+    })?;
+    // Lists of whole entries, and with one to three octets left over.
+    let sides: Sides = &[(1, &[0, 1, 3, 4, 8, 9, 10, 11]), (0, &[12, 13, 14, 15, 16])];
+    each(tried, "search, list for 3", sides, |octets| {
+        ask(base, octets)
+    })?;
+    let sides: Sides = &[(1, &[0, 60, 63]), (0, &[64, 65, 67, 68, 1_000, 70_001])];
+    each(tried, "search, list for 16", sides, |octets| {
+        ask(Wish { wanted: 16, ..base }, octets)
+    })?;
+    // T's first block lies between.
+    let sides: Sides = &[(0, &[103, 110]), (21, &[104, 105, 109])];
+    each(tried, "search beside a block", sides, |lo| {
+        ask(Wish { lo, hi: lo, ..base }, 12)
+    })
+}
+
+fn open(pair: &mut Pair, tried: &mut usize) -> Result<(), String> {
+    let mut ask = |octets, m1| pair.open(&mut Channel::holding(&vec![0xEE; octets], STATE), m1);
+    each(tried, "open, octets", MEMORY, |octets| {
+        ask(octets as usize, 4500)
+    })?;
+    each(tried, "open, M1", M1, |m1| ask(36, m1))
+}
+
+pub fn check(pair: &mut Pair) -> Verdict {
+    let mut tried = 0;
+    codec(pair, &mut tried)?;
+    open(pair, &mut tried)?;
+    reserve(pair, &mut tried)?;
+    changes(pair, &mut tried)?;
+    search(pair, &mut tried)?;
+    Ok(format!(
+        "{tried} sides of edges, answered as the paper has them"
+    ))
+}

@@ -1,0 +1,96 @@
+//! The checks of the C archive.
+
+mod codec;
+mod damage;
+mod demand_3;
+mod distances;
+mod edges;
+mod histories;
+mod marked;
+mod near;
+mod order;
+mod pair;
+mod searches;
+mod soundness;
+
+use std::fmt::Debug;
+
+use crate::report::{Report, Verdict};
+use pair::{Call, Counts, Pair};
+
+/// How many calls have to be compared at least.
+const ENOUGH: u64 = 2_000_000;
+
+/// How often each call has to give each of its answers at least.
+const OFTEN: u64 = 1_000;
+
+pub fn check(report: &mut Report) {
+    let mut pair = Pair::default();
+    let mut add = |name: &str, check: fn(&mut Pair) -> Verdict| {
+        report.add("archive", name, check(&mut pair));
+    };
+    add("worked cases", marked::check);
+    add("reading", codec::reading);
+    add("writing", codec::writing);
+    add("rates", codec::rates);
+    add("parameters", codec::parameters);
+    add("picks", codec::picks);
+    add("distances", distances::check);
+    add("distances near the limit", distances::near_limit);
+    add("edges of the calls", edges::check);
+    add("edges of soundness", soundness::check);
+    add("order of refusals", order::check);
+    add("damaged tables", damage::spoilt);
+    add("octets at random", damage::random);
+    add("small histories", histories::small);
+    add("histories of 64 records", histories::middling);
+    add("histories of 2048 records", histories::large);
+    add("sound tables", searches::tables);
+    add("large sound tables", searches::large);
+    add("demand 3", demand_3::check);
+    add("demand 3's premise", demand_3::premise);
+    for (call, name, _) in Call::ALL {
+        let verdict = often(&pair, &Counts::default(), call, OFTEN);
+        report.add("archive", &format!("answers of {name}"), verdict);
+    }
+    report.add("archive", "calls compared", enough(&pair));
+}
+
+/// How often a call gave each answer since a count; a failure where one came
+/// up too seldom.
+fn often(pair: &Pair, since: &Counts, call: Call, least: u64) -> Verdict {
+    let counts = pair.counts.since(since);
+    let mut seen = vec![format!("accepted × {}", counts.of(call, 0))];
+    let refusals = call.order().iter();
+    seen.extend(refusals.map(|&refusal| format!("{refusal} × {}", counts.of(call, refusal))));
+    let mut answers = std::iter::once(&0).chain(call.order());
+    match answers.find(|&&answer| counts.of(call, answer) < least) {
+        None => Ok(seen.join(", ")),
+        Some(answer) => Err(format!(
+            "{}: answer {answer} less than {least} times: {}",
+            call.name(),
+            seen.join(", ")
+        )),
+    }
+}
+
+fn enough(pair: &Pair) -> Verdict {
+    let by_call: Vec<String> = Call::ALL
+        .iter()
+        .map(|&(call, name, _)| format!("{name} {}", pair.counts.calls(call)))
+        .collect();
+    let all = format!("{} in all: {}", pair.counts.all(), by_call.join(", "));
+    if pair.counts.all() < ENOUGH {
+        Err(format!("too few, {all}"))
+    } else {
+        Ok(all)
+    }
+}
+
+fn expect<T: PartialEq + Debug>(what: &str, expected: T, given: T) -> Result<(), String> {
+    if expected == given {
+        Ok(())
+    } else {
+        Err(format!("{what}: expected {expected:?}, given {given:?}"))
+    }
+}

@@ -1,0 +1,346 @@
+//! The archive and the paper asked the same. Every call is compared in the
+//! number returned, each octet lent and the state formed from the answer, and
+//! is counted by its answer.
+
+use std::fmt::Debug;
+
+use crate::archive::{self, Lent};
+use crate::paper::codec::{self, Fields, GROUP};
+use crate::paper::search::{self, Wish};
+use crate::paper::slots;
+use crate::paper::table::{self, After, Measure, Reservation, State, RECORD};
+use crate::paper::{over_c, Answer};
+
+#[derive(Clone, Copy, Debug, PartialEq, Eq)]
+pub enum Call {
+    Read,
+    Write,
+    Rate,
+    Parameter,
+    Open,
+    Clock,
+    Reserve,
+    Distance,
+    Wipe,
+    SlotState,
+    Search,
+    Pick,
+}
+
+impl Call {
+    /// Each call, its name, and its refusals in the order of the paper.
+    pub const ALL: [(Call, &'static str, &'static [u32]); 12] = [
+        (Call::Read, "read", &[1, 2, 3, 4, 5, 6]),
+        (Call::Write, "write", &[8, 9, 3, 4, 5, 6]),
+        (Call::Rate, "rate", &[7, 3]),
+        (Call::Parameter, "parameter", &[22, 10]),
+        (Call::Open, "open", &[10, 1]),
+        (Call::Clock, "clock", &[11, 12, 13]),
+        (Call::Reserve, "reserve", &[11, 8, 14, 15, 9, 5, 18, 16, 17]),
+        (Call::Distance, "distance", &[11, 8, 18]),
+        (Call::Wipe, "wipe", &[11, 8]),
+        (Call::SlotState, "slot state", &[11, 12, 13]),
+        (Call::Search, "search", &[11, 19, 9, 20, 1, 21]),
+        (Call::Pick, "pick", &[20]),
+    ];
+
+    pub fn name(self) -> &'static str {
+        Call::ALL[self as usize].1
+    }
+
+    pub fn order(self) -> &'static [u32] {
+        Call::ALL[self as usize].2
+    }
+}
+
+/// A channel as the host has it: lent memory and the state beside it.
+#[derive(Clone)]
+pub struct Channel {
+    pub memory: Lent,
+    pub state: State,
+}
+
+impl Channel {
+    pub fn holding(octets: &[u8], state: State) -> Channel {
+        Channel {
+            memory: Lent::holding(octets),
+            state,
+        }
+    }
+}
+
+/// The answer of both, or what differs.
+pub type Compared = Result<Answer, String>;
+
+/// Refusals have numbers below it; place 0 is for what is accepted.
+const ANSWERS: usize = 23;
+
+/// How often each call gave each answer.
+#[derive(Clone, Default)]
+pub struct Counts([[u64; ANSWERS]; Call::ALL.len()]);
+
+impl Counts {
+    fn add(&mut self, call: Call, answer: Answer) {
+        self.0[call as usize][answer.err().unwrap_or(0) as usize] += 1;
+    }
+
+    /// Of a refusal, or of acceptance, which is 0.
+    pub fn of(&self, call: Call, refusal: u32) -> u64 {
+        self.0[call as usize][refusal as usize]
+    }
+
+    pub fn calls(&self, call: Call) -> u64 {
+        self.0[call as usize].iter().sum()
+    }
+
+    pub fn all(&self) -> u64 {
+        self.0.iter().flatten().sum()
+    }
+
+    /// What was counted since then.
+    pub fn since(&self, then: &Counts) -> Counts {
+        let mut since = self.clone();
+        for (now, then) in since.0.iter_mut().flatten().zip(then.0.iter().flatten()) {
+            *now -= then;
+        }
+        since
+    }
+}
+
+#[derive(Default)]
+pub struct Pair {
+    pub counts: Counts,
+}
+
+fn hex(octets: &[u8]) -> String {
+    let octets: Vec<String> = octets.iter().map(|octet| format!("{octet:02X}")).collect();
+    octets.join(" ")
+}
+
+/// Octets in a message: all of a few, else their number and the first.
+fn shown(octets: &[u8]) -> String {
+    const FEW: usize = 20 * RECORD;
+    let rows: Vec<String> = octets[..octets.len().min(FEW)]
+        .chunks(RECORD)
+        .map(hex)
+        .collect();
+    let rows = rows.join(" | ");
+    match octets.len() {
+        length @ 0..=FEW => format!("{length} octets [{rows}]"),
+        length => format!("{length} octets [{rows} ...]"),
+    }
+}
+
+/// Tells the first place in which two rows of octets differ.
+fn same_octets(what: &str, expected: &[u8], given: &[u8]) -> Result<(), String> {
+    match expected
+        .iter()
+        .zip(given)
+        .position(|(want, got)| want != got)
+    {
+        None if expected.len() == given.len() => Ok(()),
+        None => Err(format!("{what} of another length")),
+        Some(place) => Err(format!(
+            "octet {place} of the {what}: expected {:02X}, given {:02X}",
+            expected[place], given[place]
+        )),
+    }
+}
+
+fn same<T: PartialEq + Debug>(what: &str, expected: T, given: T) -> Result<(), String> {
+    if expected == given {
+        Ok(())
+    } else {
+        Err(format!("{what}: expected {expected:?}, given {given:?}"))
+    }
+}
+
+/// The next state as a C host forms it from the number returned.
+fn formed(state: State, given: u32, next: impl FnOnce(u32) -> State) -> State {
+    if given >= over_c(Err(0)) {
+        state
+    } else {
+        next(given)
+    }
+}
+
+impl Pair {
+    fn told<T>(
+        &mut self,
+        call: Call,
+        answer: Answer,
+        compared: Result<T, String>,
+        input: impl Fn() -> String,
+    ) -> Compared {
+        self.counts.add(call, answer);
+        match compared {
+            Ok(_) => Ok(answer),
+            Err(difference) => Err(format!("{}, {}: {difference}", call.name(), input())),
+        }
+    }
+
+    /// The fields both gave, or their refusal.
+    pub fn read(&mut self, group: &[u8]) -> Result<Result<Fields, u32>, String> {
+        let expected = codec::read(group);
+        let compared = archive::read(group).and_then(|(refusal, fields)| {
+            same("refusal", expected.err().unwrap_or(0), refusal)?;
+            same("fields", expected.unwrap_or_default(), fields)
+        });
+        let answer = expected.map(|_| 0);
+        let _ = self.told(Call::Read, answer, compared, || hex(group))?;
+        Ok(expected)
+    }
+
+    /// The octets both gave, or their refusal.
+    pub fn write(&mut self, fields: &Fields) -> Result<Result<[u8; GROUP], u32>, String> {
+        let expected = codec::write(fields);
+        let (refusal, octets) = archive::write(fields);
+        let compared = same("refusal", expected.err().unwrap_or(0), refusal)
+            .and_then(|()| same_octets("group", &expected.unwrap_or_default(), &octets));
+        let answer = expected.map(|_| 0);
+        let _ = self.told(Call::Write, answer, compared, || format!("{fields:?}"))?;
+        Ok(expected)
+    }
+
+    pub fn rate(&mut self, list: &[u8], code: u32) -> Compared {
+        let expected = codec::rate(list, code);
+        let compared =
+            archive::rate(list, code).and_then(|given| same("number", over_c(expected), given));
+        self.told(Call::Rate, expected, compared, || {
+            format!("list {list:?}, code {code}")
+        })
+    }
+
+    pub fn parameter(&mut self, number: u32, figure: u32) -> Compared {
+        let expected = codec::parameter(number, figure);
+        let given = archive::parameter(number, figure);
+        let compared = same("number", over_c(expected), given);
+        self.told(Call::Parameter, expected, compared, || {
+            format!("number {number}, figure {figure}")
+        })
+    }
+
+    /// Compares a call that may change the table. `next` is the state that the
+    /// host forms from the number reported.
+    fn changing(
+        &mut self,
+        call: Call,
+        channel: &mut Channel,
+        model: impl FnOnce(&[u8], State) -> After,
+        archive: impl FnOnce(&mut Lent, State) -> Result<u32, String>,
+        next: impl FnOnce(State, u32) -> State,
+        input: impl Fn() -> String,
+    ) -> Compared {
+        let before = channel.memory.octets().to_vec();
+        let state = channel.state;
+        let expected = model(&before, state);
+        let compared = archive(&mut channel.memory, state).and_then(|given| {
+            channel.state = formed(channel.state, given, |number| next(state, number));
+            same("number", over_c(expected.answer), given)?;
+            same_octets("memory", &expected.memory, channel.memory.octets())?;
+            same("state", expected.state, channel.state)
+        });
+        self.told(call, expected.answer, compared, || {
+            format!("{}, {state:?}, memory {}", input(), shown(&before))
+        })
+    }
+
+    pub fn open(&mut self, channel: &mut Channel, m1: u32) -> Compared {
+        // The host has no state before an opening.
+        channel.state = State::default();
+        self.changing(
+            Call::Open,
+            channel,
+            |memory, _| table::open(memory, m1),
+            |memory, _| archive::open(memory, m1),
+            |state, _| State { m1, ..state },
+            || format!("M1 {m1}"),
+        )
+    }
+
+    pub fn clock(&mut self, channel: &mut Channel, slot: u32) -> Compared {
+        self.changing(
+            Call::Clock,
+            channel,
+            |memory, state| table::clock(memory, state, slot),
+            |memory, state| archive::clock(memory, state, slot),
+            |state, dropped| State {
+                now: slot,
+                count: state.count.wrapping_sub(dropped),
+                ..state
+            },
+            || format!("to {slot}"),
+        )
+    }
+
+    pub fn reserve(&mut self, channel: &mut Channel, asked: &Reservation) -> Compared {
+        self.changing(
+            Call::Reserve,
+            channel,
+            |memory, state| table::reserve(memory, state, asked),
+            |memory, state| archive::reserve(memory, state, asked),
+            |state, _| State {
+                count: state.count.wrapping_add(1),
+                ..state
+            },
+            || format!("{asked:?}"),
+        )
+    }
+
+    pub fn distance(&mut self, channel: &mut Channel, told: &Measure) -> Compared {
+        self.changing(
+            Call::Distance,
+            channel,
+            |memory, state| table::distance(memory, state, told),
+            |memory, state| archive::distance(memory, state, told),
+            |state, _| state,
+            || format!("{told:?}"),
+        )
+    }
+
+    pub fn wipe(&mut self, channel: &mut Channel, station: u32) -> Compared {
+        self.changing(
+            Call::Wipe,
+            channel,
+            |memory, state| table::wipe(memory, state, station),
+            |memory, state| archive::wipe(memory, state, station),
+            |state, removed| State {
+                count: state.count.wrapping_sub(removed),
+                ..state
+            },
+            || format!("station {station}"),
+        )
+    }
+
+    pub fn slot_state(&mut self, channel: &mut Channel, slot: u32) -> Compared {
+        let state = channel.state;
+        let expected = slots::state(channel.memory.octets(), state, slot);
+        let compared = archive::slot_state(&mut channel.memory, state, slot)
+            .and_then(|given| same("number", over_c(expected), given));
+        self.told(Call::SlotState, expected, compared, || {
+            let memory = shown(channel.memory.octets());
+            format!("slot {slot}, {state:?}, memory {memory}")
+        })
+    }
+
+    /// The list holds what it likes before; afterwards what both gave.
+    pub fn search(&mut self, channel: &mut Channel, wish: &Wish, list: &mut Lent) -> Compared {
+        let state = channel.state;
+        let octets = list.octets().len();
+        let (expected, entries) = search::search(channel.memory.octets(), state, wish, octets);
+        let compared = archive::search(&mut channel.memory, state, wish, list).and_then(|given| {
+            same("number", over_c(expected), given)?;
+            same_octets("list", &entries, list.octets())
+        });
+        self.told(Call::Search, expected, compared, || {
+            let memory = shown(channel.memory.octets());
+            format!("{wish:?}, a list of {octets} octets, {state:?}, memory {memory}")
+        })
+    }
+
+    pub fn pick(&mut self, n: u32, r: u32) -> Compared {
+        let expected = search::pick(n, r);
+        let compared = same("number", over_c(expected), archive::pick(n, r));
+        self.told(Call::Pick, expected, compared, || format!("n {n}, r {r}"))
+    }
+}

@@ -1,0 +1,190 @@
+//! Both sides of each edge of a sound table: memory, state, fields and tail.
+//! The answers stand here as the paper has them.
+
+use super::edges::{table, Sides, M1, MEMORY, STATE, STATION, T};
+use super::expect;
+use super::pair::{Channel, Pair};
+use crate::archive::Lent;
+use crate::paper::distance::UNKNOWN;
+use crate::paper::search::Wish;
+use crate::paper::table::{Measure, Record, Reservation, State, LATEST_FIRST, RECORD};
+use crate::paper::LATEST;
+use crate::report::Verdict;
+
+/// Whether a table is sound by each table call but open, asked for what a
+/// sound one accepts. All have to agree.
+pub fn by_every_call(pair: &mut Pair, channel: &Channel) -> Result<bool, String> {
+    let now = channel.state.now;
+    let copy = || channel.clone();
+    let asked = Reservation {
+        station: 77,
+        rate: 2,
+        superframes: 1,
+        bs: 9,
+        length: 3,
+        distance: UNKNOWN,
+        limit: 150.0,
+    };
+    let told = Measure {
+        station: 1,
+        distance: UNKNOWN,
+        limit: 150.0,
+    };
+    let wish = Wish {
+        lo: now,
+        hi: now,
+        length: 1,
+        wanted: 1,
+    };
+    // Nothing lent but nothing, where there is nothing of a table either.
+    let entries = channel.memory.octets().len().min(4);
+    let mut list = Lent::holding(&vec![0xEE; entries]);
+    let answers = [
+        pair.clock(&mut copy(), now)?,
+        pair.reserve(&mut copy(), &asked)?,
+        pair.distance(&mut copy(), &told)?,
+        pair.wipe(&mut copy(), 1)?,
+        pair.slot_state(&mut copy(), now)?,
+        pair.search(&mut copy(), &wish, &mut list)?,
+    ];
+    let [clock, reserve, distance, wipe, slot_state, search] = answers;
+    // A sound table may be full, and its slot now may be taken.
+    let sound = [clock, distance, wipe, slot_state]
+        .iter()
+        .all(|answer| answer.is_ok())
+        && matches!(reserve, Ok(_) | Err(17))
+        && matches!(search, Ok(_) | Err(21));
+    if sound || answers == [Err(11); 6] {
+        Ok(sound)
+    } else {
+        Err(format!("{:?}: the calls give {answers:?}", channel.state))
+    }
+}
+
+/// Tries the table made of each number, and counts it.
+fn each(
+    pair: &mut Pair,
+    tried: &mut usize,
+    what: &str,
+    sides: Sides,
+    made: impl Fn(u32) -> Channel,
+) -> Result<(), String> {
+    for &(refusal, numbers) in sides {
+        for &number in numbers {
+            let sound = by_every_call(pair, &made(number))?;
+            expect(&format!("{what} {number} sound"), refusal == 0, sound)?;
+            *tried += 1;
+        }
+    }
+    Ok(())
+}
+
+/// Every value of one of a record's octets, of which a range is good.
+fn each_octet(
+    pair: &mut Pair,
+    tried: &mut usize,
+    what: &str,
+    good: std::ops::RangeInclusive<u32>,
+    made: impl Fn(u8) -> Record,
+) -> Result<(), String> {
+    let (good, bad): (Vec<u32>, Vec<u32>) = (0..=255).partition(|octet| good.contains(octet));
+    let sides: Sides = &[(0, &good), (11, &bad)];
+    each(pair, tried, what, sides, |octet| {
+        table(made(octet as u8), STATE, 2)
+    })
+}
+
+fn state(pair: &mut Pair, tried: &mut usize) -> Result<(), String> {
+    each(pair, tried, "octets", MEMORY, |octets| {
+        let empty = State { count: 0, ..STATE };
+        Channel::holding(&vec![0; octets as usize], empty)
+    })?;
+    each(pair, tried, "M1", M1, |m1| {
+        table(T, State { m1, ..STATE }, 2)
+    })?;
+    let late = Record {
+        first: LATEST_FIRST,
+        ..T
+    };
+    let sides: Sides = &[
+        (0, &[0, 1, LATEST - 1, LATEST]),
+        (11, &[LATEST + 1, LATEST_FIRST, u32::MAX]),
+    ];
+    each(pair, tried, "now", sides, |now| {
+        table(late, State { now, ..STATE }, 2)
+    })?;
+    // One record, and room for two.
+    let sides: Sides = &[(0, &[1]), (11, &[0, 2, 3, 4, 256 + 1, 1 << 31, u32::MAX])];
+    each(pair, tried, "count", sides, |count| {
+        table(T, State { count, ..STATE }, 3)
+    })?;
+    each(pair, tried, "count of a full table", sides, |count| {
+        table(T, State { count, ..STATE }, 1)
+    })
+}
+
+fn records(pair: &mut Pair, tried: &mut usize) -> Result<(), String> {
+    each(pair, tried, "station", STATION, |station| {
+        table(Record { station, ..T }, STATE, 2)
+    })?;
+    let sides: Sides = &[
+        (0, &[100, LATEST, LATEST_FIRST - 1, LATEST_FIRST]),
+        (11, &[LATEST_FIRST + 1, 1 << 31, u32::MAX]),
+    ];
+    each(pair, tried, "first", sides, |first| {
+        table(Record { first, ..T }, STATE, 2)
+    })?;
+    each_octet(pair, tried, "rate", 1..=60, |rate| Record { rate, ..T })?;
+    each_octet(pair, tried, "superframes", 1..=3, |superframes| Record {
+        superframes,
+        ..T
+    })?;
+    each_octet(pair, tried, "length", 1..=32, |length| Record {
+        length,
+        ..T
+    })?;
+    each_octet(pair, tried, "far", 0..=1, |far| Record { far, ..T })?;
+    // T's last slot is 7609.
+    let sides: Sides = &[(0, &[7608, 7609]), (11, &[7610, 7611, LATEST])];
+    each(pair, tried, "T at clock", sides, |now| {
+        table(T, State { now, ..STATE }, 2)
+    })?;
+    // With M1 60 and rate 7 it is 48 after the first, not 51.
+    let seven = Record {
+        rate: 7,
+        superframes: 1,
+        length: 1,
+        ..T
+    };
+    let sides: Sides = &[(0, &[105, 152, 153]), (11, &[154, 155, 156, 157])];
+    each(pair, tried, "rate 7 at clock", sides, |now| {
+        table(
+            seven,
+            State {
+                m1: 60,
+                now,
+                ..STATE
+            },
+            2,
+        )
+    })?;
+    let places: Vec<u32> = (RECORD as u32..3 * RECORD as u32).collect();
+    each(
+        pair,
+        tried,
+        "a tail with octet",
+        &[(11, &places)],
+        |place| {
+            let mut channel = table(T, STATE, 3);
+            channel.memory.octets_mut()[place as usize] = 1 << (place % 8);
+            channel
+        },
+    )
+}
+
+pub fn check(pair: &mut Pair) -> Verdict {
+    let mut tried = 0;
+    state(pair, &mut tried)?;
+    records(pair, &mut tried)?;
+    Ok(format!("{tried} sides of edges, each by six calls"))
+}

@@ -1,0 +1,303 @@
+//! The table: records in lent octets, the state beside them, and the calls
+//! that change them.
+
+use super::codec;
+use super::distance::{self, Distance};
+use super::{Answer, Refusal, LATEST, STATIONS};
+
+/// Octets in a record.
+pub const RECORD: usize = 12;
+
+/// The most records of a table.
+pub const MOST_RECORDS: usize = 2_048;
+
+/// No record begins later.
+pub const LATEST_FIRST: u32 = LATEST + 255;
+
+#[derive(Clone, Copy, Debug, Default, PartialEq, Eq)]
+pub struct State {
+    pub m1: u32,
+    pub now: u32,
+    pub count: u32,
+}
+
+#[derive(Clone, Copy, Debug, PartialEq, Eq)]
+pub struct Record {
+    pub station: u32,
+    pub first: u32,
+    pub rate: u8,
+    pub superframes: u8,
+    pub length: u8,
+    pub far: u8,
+}
+
+impl Record {
+    pub fn of_octets(octets: &[u8]) -> Record {
+        let number = |place: usize| {
+            (place..place + 4)
+                .rev()
+                .fold(0, |number, place| number * 256 + u32::from(octets[place]))
+        };
+        Record {
+            station: number(0),
+            first: number(4),
+            rate: octets[8],
+            superframes: octets[9],
+            length: octets[10],
+            far: octets[11],
+        }
+    }
+
+    pub fn octets(&self) -> Vec<u8> {
+        let mut octets = Vec::with_capacity(RECORD);
+        for number in [self.station, self.first] {
+            octets.extend((0..4).map(|place| (number >> (8 * place)) as u8));
+        }
+        octets.extend([self.rate, self.superframes, self.length, self.far]);
+        octets
+    }
+
+    /// Of a record whose fields are in their ranges.
+    pub fn last_slot(&self, m1: u32) -> u64 {
+        let [first, m1] = [self.first, m1].map(u64::from);
+        let [rate, superframes, length] = [self.rate, self.superframes, self.length].map(u64::from);
+        first + (superframes - 1) * m1 + (rate - 1) * (m1 / rate) + length - 1
+    }
+
+    fn in_ranges(&self) -> bool {
+        self.station < STATIONS
+            && self.first <= LATEST_FIRST
+            && (1..=60).contains(&self.rate)
+            && (1..=3).contains(&self.superframes)
+            && (1..=32).contains(&self.length)
+            && self.far <= 1
+    }
+
+    /// Whether refusal 16 takes them for the same; far doesn't matter.
+    fn same_as(&self, other: &Record) -> bool {
+        let told = |record: &Record| Record { far: 0, ..*record };
+        told(self) == told(other)
+    }
+}
+
+/// A sound table.
+pub struct Table {
+    pub records: Vec<Record>,
+    pub m1: u32,
+    pub now: u32,
+    pub capacity: usize,
+}
+
+/// How many records a memory of so many octets holds, if it is of a right size.
+fn capacity(octets: usize) -> Option<usize> {
+    let capacity = octets / RECORD;
+    ((1..=MOST_RECORDS).contains(&capacity) && octets.is_multiple_of(RECORD)).then_some(capacity)
+}
+
+impl Table {
+    /// The table that octets and state hold; refusal 11 where it isn't sound.
+    pub fn held(memory: &[u8], state: State) -> Result<Table, Refusal> {
+        let State { m1, now, count } = state;
+        let capacity = capacity(memory.len()).ok_or(11_u32)?;
+        if codec::parameter(1, m1).is_err() || now > LATEST || count as usize > capacity {
+            return Err(11);
+        }
+        let (records, tail) = memory.split_at(count as usize * RECORD);
+        let records: Vec<Record> = records.chunks(RECORD).map(Record::of_octets).collect();
+        let fits = |record: &Record| record.in_ranges() && record.last_slot(m1) >= u64::from(now);
+        if !records.iter().all(fits) || tail.iter().any(|&octet| octet != 0) {
+            return Err(11);
+        }
+        Ok(Table {
+            records,
+            m1,
+            now,
+            capacity,
+        })
+    }
+
+    pub fn octets(&self) -> Vec<u8> {
+        let mut octets = Vec::with_capacity(self.capacity * RECORD);
+        for record in &self.records {
+            octets.extend(record.octets());
+        }
+        octets.resize(self.capacity * RECORD, 0);
+        octets
+    }
+
+    pub fn state(&self) -> State {
+        State {
+            m1: self.m1,
+            now: self.now,
+            count: self.records.len() as u32,
+        }
+    }
+
+    /// Keeps some of the records in their order; how many went.
+    fn keep(&mut self, kept: impl FnMut(&Record) -> bool) -> u32 {
+        let before = self.records.len();
+        self.records.retain(kept);
+        (before - self.records.len()) as u32
+    }
+}
+
+/// What a call leaves.
+#[derive(Debug)]
+pub struct After {
+    pub answer: Answer,
+    pub memory: Vec<u8>,
+    pub state: State,
+}
+
+/// Makes a change in a table. One that isn't sound, or a change that is
+/// refused, leaves memory and state as they were.
+fn change(memory: &[u8], state: State, change: impl FnOnce(&mut Table) -> Answer) -> After {
+    let changed = Table::held(memory, state).and_then(|mut table| {
+        let number = change(&mut table)?;
+        Ok((number, table))
+    });
+    match changed {
+        Ok((number, table)) => After {
+            answer: Ok(number),
+            memory: table.octets(),
+            state: table.state(),
+        },
+        Err(refusal) => After {
+            answer: Err(refusal),
+            memory: memory.to_vec(),
+            state,
+        },
+    }
+}
+
+/// Refusals in the order 10, 1.
+pub fn open(memory: &[u8], m1: u32) -> After {
+    let refused = if codec::parameter(1, m1).is_err() {
+        Some(10)
+    } else if capacity(memory.len()).is_none() {
+        Some(1)
+    } else {
+        None
+    };
+    match refused {
+        None => After {
+            answer: Ok(0),
+            memory: vec![0; memory.len()],
+            state: State {
+                m1,
+                now: 0,
+                count: 0,
+            },
+        },
+        Some(refusal) => After {
+            answer: Err(refusal),
+            memory: memory.to_vec(),
+            state: State::default(),
+        },
+    }
+}
+
+/// Refusals in the order 11, 12, 13.
+pub fn clock(memory: &[u8], state: State, slot: u32) -> After {
+    change(memory, state, |table| {
+        if slot < table.now {
+            return Err(12);
+        }
+        if slot > LATEST {
+            return Err(13);
+        }
+        table.now = slot;
+        let m1 = table.m1;
+        Ok(table.keep(|record| record.last_slot(m1) >= u64::from(slot)))
+    })
+}
+
+/// What a reserve asks for.
+#[derive(Clone, Copy, Debug)]
+pub struct Reservation {
+    pub station: u32,
+    pub rate: u32,
+    pub superframes: u32,
+    pub bs: u32,
+    pub length: u32,
+    pub distance: Distance,
+    pub limit: f64,
+}
+
+/// Refusals in the order 11, 8, 14, 15, 9, 5, 18, 16, 17.
+pub fn reserve(memory: &[u8], state: State, asked: &Reservation) -> After {
+    change(memory, state, |table| {
+        if asked.station >= STATIONS {
+            return Err(8);
+        }
+        if asked.rate == 0 || asked.rate > 60 {
+            return Err(14);
+        }
+        if asked.superframes == 0 {
+            return Err(15);
+        }
+        if asked.superframes > 3 || asked.length == 0 || asked.length > 32 {
+            return Err(9);
+        }
+        if asked.bs < 2 || asked.bs > 255 {
+            return Err(5);
+        }
+        if distance::limit_refused(asked.limit) {
+            return Err(18);
+        }
+        let record = Record {
+            station: asked.station,
+            first: table.now + asked.bs,
+            rate: asked.rate as u8,
+            superframes: asked.superframes as u8,
+            length: asked.length as u8,
+            far: distance::far(asked.distance, asked.limit).into(),
+        };
+        if table.records.iter().any(|held| held.same_as(&record)) {
+            return Err(16);
+        }
+        if table.records.len() == table.capacity {
+            return Err(17);
+        }
+        table.records.push(record);
+        Ok(0)
+    })
+}
+
+/// What a distance call tells of a station.
+#[derive(Clone, Copy, Debug)]
+pub struct Measure {
+    pub station: u32,
+    pub distance: Distance,
+    pub limit: f64,
+}
+
+/// Refusals in the order 11, 8, 18.
+pub fn distance(memory: &[u8], state: State, told: &Measure) -> After {
+    change(memory, state, |table| {
+        if told.station >= STATIONS {
+            return Err(8);
+        }
+        if distance::limit_refused(told.limit) {
+            return Err(18);
+        }
+        let mut held = 0;
+        for record in &mut table.records {
+            if record.station == told.station {
+                record.far = distance::far(told.distance, told.limit).into();
+                held += 1;
+            }
+        }
+        Ok(held)
+    })
+}
+
+/// Refusals in the order 11, 8.
+pub fn wipe(memory: &[u8], state: State, station: u32) -> After {
+    change(memory, state, |table| {
+        if station >= STATIONS {
+            return Err(8);
+        }
+        Ok(table.keep(|record| record.station != station))
+    })
+}

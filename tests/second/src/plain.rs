@@ -1,0 +1,567 @@
+//! The calls of the archive as one would write them by hand, without proofs
+//! and with the same checks: the peers for the benchmark. Nothing is inlined
+//! into the caller, as nothing of an archive can be.
+
+use crate::gemthatch::{Block, Reading, Writing};
+
+const RECORD: usize = 12;
+const MOST_RECORDS: usize = 2048;
+const LAST_SLOT: u32 = 1_000_000_000;
+const MOST_BS: u32 = 255;
+const ADDRESSES: u32 = 1 << 27;
+const FARTHEST: f64 = 4096.0;
+
+/// The number reported, or the refusal.
+pub type Answer = Result<u32, u32>;
+
+fn code_is_invalid(code: u32) -> bool {
+    matches!(code, 7 | 14 | 15)
+}
+
+fn block_of(octets: &[u8]) -> Result<Block, u32> {
+    let &[o1, o2, o3, o4, roff, o6, bs, bo, o9] = octets else {
+        return Err(1);
+    };
+    let br = u32::from(o6 & 15);
+    if o9 >> 3 != 0b00010 {
+        return Err(2);
+    }
+    if code_is_invalid(br) {
+        return Err(3);
+    }
+    if roff < 2 {
+        return Err(4);
+    }
+    if bs < 2 {
+        return Err(5);
+    }
+    if bo == 0x80 {
+        return Err(6);
+    }
+    Ok(Block {
+        d: u32::from_be_bytes([o4 & 7, o1, o2, o3]),
+        blg: (o4 >> 3).into(),
+        roff: roff.into(),
+        br,
+        bs: bs.into(),
+        bo: (bo as i8).into(),
+        bt: (o9 & 3).into(),
+    })
+}
+
+#[inline(never)]
+pub fn read(octets: &[u8]) -> Reading {
+    match block_of(octets) {
+        Ok(block) => Reading { refusal: 0, block },
+        Err(refusal) => Reading {
+            refusal,
+            block: Block::default(),
+        },
+    }
+}
+
+fn octets_of(block: Block) -> Result<[u8; 9], u32> {
+    if block.d >= ADDRESSES {
+        return Err(8);
+    }
+    if block.blg > 31 || block.bt > 3 {
+        return Err(9);
+    }
+    if block.br > 15 || code_is_invalid(block.br) {
+        return Err(3);
+    }
+    if !(2..=255).contains(&block.roff) {
+        return Err(4);
+    }
+    if !(2..=255).contains(&block.bs) {
+        return Err(5);
+    }
+    if !(-127..=127).contains(&block.bo) {
+        return Err(6);
+    }
+    let [top, o1, o2, o3] = block.d.to_be_bytes();
+    Ok([
+        o1,
+        o2,
+        o3,
+        (block.blg as u8) << 3 | top,
+        block.roff as u8,
+        block.br as u8,
+        block.bs as u8,
+        block.bo as u8,
+        0b00010 << 3 | block.bt as u8,
+    ])
+}
+
+/// Structs by value travel in other ways in Rust than in C.
+#[inline(never)]
+pub extern "C" fn write(block: Block) -> Writing {
+    match octets_of(block) {
+        Ok(octets) => Writing { refusal: 0, octets },
+        Err(refusal) => Writing {
+            refusal,
+            octets: [0; 9],
+        },
+    }
+}
+
+#[inline(never)]
+pub fn rate(rates: &[u8], code: u32) -> Answer {
+    let Ok(rates) = <&[u8; 16]>::try_from(rates) else {
+        return Err(7);
+    };
+    if rates.iter().any(|&rate| rate > 60) || rates[7] != 0 || rates[14] != 0 || rates[15] != 0 {
+        return Err(7);
+    }
+    match rates.get(code as usize) {
+        None | Some(0) => Err(3),
+        Some(&rate) => Ok(rate.into()),
+    }
+}
+
+struct Row {
+    min: u32,
+    max: u32,
+    step: u32,
+}
+
+const ROWS: [Row; 3] = [
+    Row {
+        min: 60,
+        max: 15360,
+        step: 60,
+    },
+    Row {
+        min: 1,
+        max: 256,
+        step: 1,
+    },
+    Row {
+        min: 1,
+        max: 65536,
+        step: 1,
+    },
+];
+
+#[inline(never)]
+pub fn parameter(number: u32, figure: u32) -> Answer {
+    let Some(row) = ROWS.get(number.wrapping_sub(1) as usize) else {
+        return Err(22);
+    };
+    if figure < row.min || figure > row.max || !(figure - row.min).is_multiple_of(row.step) {
+        return Err(10);
+    }
+    Ok(0)
+}
+
+fn is_superframe(m1: u32) -> bool {
+    (60..=15360).contains(&m1) && m1.is_multiple_of(60)
+}
+
+/// A channel's state beside its memory.
+#[derive(Clone, Copy, Debug)]
+pub struct State {
+    pub m1: u32,
+    pub now: u32,
+    pub count: u32,
+}
+
+#[derive(Clone, Copy, PartialEq)]
+pub struct Record {
+    pub station: u32,
+    pub first: u32,
+    pub rate: u32,
+    pub superframes: u32,
+    pub length: u32,
+    pub far: u8,
+}
+
+impl Record {
+    fn read(octets: &[u8]) -> Self {
+        Record {
+            station: u32::from_le_bytes(octets[0..4].try_into().unwrap()),
+            first: u32::from_le_bytes(octets[4..8].try_into().unwrap()),
+            rate: octets[8].into(),
+            superframes: octets[9].into(),
+            length: octets[10].into(),
+            far: octets[11],
+        }
+    }
+
+    pub fn write(&self, octets: &mut [u8]) {
+        octets[0..4].copy_from_slice(&self.station.to_le_bytes());
+        octets[4..8].copy_from_slice(&self.first.to_le_bytes());
+        octets[8] = self.rate as u8;
+        octets[9] = self.superframes as u8;
+        octets[10] = self.length as u8;
+        octets[11] = self.far;
+    }
+
+    pub fn last(&self, m1: u32) -> u32 {
+        self.first + (self.superframes - 1) * m1 + (self.rate - 1) * (m1 / self.rate) + self.length
+            - 1
+    }
+
+    fn is_sound(&self, m1: u32, now: u32) -> bool {
+        self.station < ADDRESSES
+            && self.first <= LAST_SLOT + MOST_BS
+            && (1..=60).contains(&self.rate)
+            && (1..=3).contains(&self.superframes)
+            && (1..=32).contains(&self.length)
+            && self.far <= 1
+            && self.last(m1) >= now
+    }
+
+    /// The paper's sentence as it stands.
+    fn reserves_in_turn(&self, m1: u32, slot: u32) -> bool {
+        let spacing = m1 / self.rate;
+        for k in 0..self.superframes {
+            for j in 0..self.rate {
+                let start = self.first + k * m1 + j * spacing;
+                if start <= slot && slot < start + self.length {
+                    return true;
+                }
+            }
+        }
+        false
+    }
+
+    /// By the last block of each superframe that starts at or before the slot.
+    fn reserves_dividing(&self, m1: u32, slot: u32) -> bool {
+        let spacing = m1 / self.rate;
+        for k in 0..self.superframes {
+            let base = self.first + k * m1;
+            if slot < base {
+                return false;
+            }
+            let off = slot - base;
+            let j = (off / spacing).min(self.rate - 1);
+            if off - j * spacing < self.length {
+                return true;
+            }
+        }
+        false
+    }
+}
+
+fn records(memory: &[u8], state: State) -> impl Iterator<Item = Record> + '_ {
+    memory[..state.count as usize * RECORD]
+        .chunks_exact(RECORD)
+        .map(Record::read)
+}
+
+fn size_is_right(memory: &[u8]) -> bool {
+    !memory.is_empty()
+        && memory.len().is_multiple_of(RECORD)
+        && memory.len() <= MOST_RECORDS * RECORD
+}
+
+fn is_sound(memory: &[u8], state: State) -> bool {
+    size_is_right(memory)
+        && is_superframe(state.m1)
+        && state.now <= LAST_SLOT
+        && state.count as usize <= memory.len() / RECORD
+        && records(memory, state).all(|record| record.is_sound(state.m1, state.now))
+        // Without an early exit, so that whole vectors are tested.
+        && memory[state.count as usize * RECORD..]
+            .iter()
+            .fold(0, |seen, octet| seen | octet)
+            == 0
+}
+
+/// Keeps some of the records in order, zeros the tail, and tells how many went.
+fn retain(memory: &mut [u8], state: State, keeps: impl Fn(&Record) -> bool) -> u32 {
+    let end = state.count as usize * RECORD;
+    let mut kept = 0;
+    for at in (0..end).step_by(RECORD) {
+        if keeps(&Record::read(&memory[at..at + RECORD])) {
+            if kept < at {
+                memory.copy_within(at..at + RECORD, kept);
+            }
+            kept += RECORD;
+        }
+    }
+    memory[kept..end].fill(0);
+    ((end - kept) / RECORD) as u32
+}
+
+#[inline(never)]
+pub fn open(memory: &mut [u8], m1: u32) -> Answer {
+    if !is_superframe(m1) {
+        return Err(10);
+    }
+    if !size_is_right(memory) {
+        return Err(1);
+    }
+    memory.fill(0);
+    Ok(0)
+}
+
+#[inline(never)]
+pub fn clock(memory: &mut [u8], state: State, slot: u32) -> Answer {
+    if !is_sound(memory, state) {
+        return Err(11);
+    }
+    if slot < state.now {
+        return Err(12);
+    }
+    if slot > LAST_SLOT {
+        return Err(13);
+    }
+    Ok(retain(memory, state, |record| {
+        record.last(state.m1) >= slot
+    }))
+}
+
+/// A distance as it comes over C.
+#[derive(Clone, Copy, Debug)]
+pub struct Distance {
+    pub kind: u32,
+    pub a: f64,
+    pub b: f64,
+}
+
+impl Distance {
+    fn is_far(&self, limit: f64) -> bool {
+        let within = -FARTHEST..=FARTHEST;
+        match self.kind {
+            1 => limit <= self.a && self.a <= FARTHEST,
+            2 => {
+                within.contains(&self.a)
+                    && within.contains(&self.b)
+                    && self.a * self.a + self.b * self.b >= limit * limit
+            }
+            _ => false,
+        }
+    }
+}
+
+/// What a reserve asks for.
+#[derive(Clone, Copy, Debug)]
+pub struct Wish {
+    pub station: u32,
+    pub rate: u32,
+    pub superframes: u32,
+    pub bs: u32,
+    pub length: u32,
+    pub distance: Distance,
+    pub limit: f64,
+}
+
+#[inline(never)]
+pub fn reserve(memory: &mut [u8], state: State, wish: &Wish) -> Answer {
+    if !is_sound(memory, state) {
+        return Err(11);
+    }
+    if wish.station >= ADDRESSES {
+        return Err(8);
+    }
+    if !(1..=60).contains(&wish.rate) {
+        return Err(14);
+    }
+    if wish.superframes == 0 {
+        return Err(15);
+    }
+    if wish.superframes > 3 || !(1..=32).contains(&wish.length) {
+        return Err(9);
+    }
+    if !(2..=MOST_BS).contains(&wish.bs) {
+        return Err(5);
+    }
+    if !(0.0..=FARTHEST).contains(&wish.limit) {
+        return Err(18);
+    }
+    let new = Record {
+        station: wish.station,
+        first: state.now + wish.bs,
+        rate: wish.rate,
+        superframes: wish.superframes,
+        length: wish.length,
+        far: wish.distance.is_far(wish.limit).into(),
+    };
+    let held = |record: Record| {
+        record.station == new.station
+            && record.first == new.first
+            && record.rate == new.rate
+            && record.superframes == new.superframes
+            && record.length == new.length
+    };
+    if records(memory, state).any(held) {
+        return Err(16);
+    }
+    let at = state.count as usize * RECORD;
+    if at == memory.len() {
+        return Err(17);
+    }
+    new.write(&mut memory[at..at + RECORD]);
+    Ok(0)
+}
+
+#[inline(never)]
+pub fn distance(
+    memory: &mut [u8],
+    state: State,
+    station: u32,
+    distance: Distance,
+    limit: f64,
+) -> Answer {
+    if !is_sound(memory, state) {
+        return Err(11);
+    }
+    if station >= ADDRESSES {
+        return Err(8);
+    }
+    if !(0.0..=FARTHEST).contains(&limit) {
+        return Err(18);
+    }
+    let far = distance.is_far(limit).into();
+    let mut held = 0;
+    for octets in memory[..state.count as usize * RECORD].chunks_exact_mut(RECORD) {
+        if Record::read(octets).station == station {
+            octets[11] = far;
+            held += 1;
+        }
+    }
+    Ok(held)
+}
+
+#[inline(never)]
+pub fn wipe(memory: &mut [u8], state: State, station: u32) -> Answer {
+    if !is_sound(memory, state) {
+        return Err(11);
+    }
+    if station >= ADDRESSES {
+        return Err(8);
+    }
+    Ok(retain(memory, state, |record| record.station != station))
+}
+
+const FREE: u8 = 0;
+const REUSABLE: u8 = 1;
+const TAKEN: u8 = 2;
+
+fn slot_state(
+    memory: &[u8],
+    state: State,
+    slot: u32,
+    reserves: impl Fn(&Record) -> bool,
+) -> Answer {
+    if !is_sound(memory, state) {
+        return Err(11);
+    }
+    if slot < state.now {
+        return Err(12);
+    }
+    if slot > LAST_SLOT {
+        return Err(13);
+    }
+    let mut found = FREE;
+    for record in records(memory, state) {
+        if reserves(&record) {
+            if record.far == 0 {
+                return Ok(TAKEN.into());
+            }
+            found = REUSABLE;
+        }
+    }
+    Ok(found.into())
+}
+
+#[inline(never)]
+pub fn slot_state_in_turn(memory: &[u8], state: State, slot: u32) -> Answer {
+    slot_state(memory, state, slot, |record| {
+        record.reserves_in_turn(state.m1, slot)
+    })
+}
+
+#[inline(never)]
+pub fn slot_state_dividing(memory: &[u8], state: State, slot: u32) -> Answer {
+    slot_state(memory, state, slot, |record| {
+        record.reserves_dividing(state.m1, slot)
+    })
+}
+
+/// What a search asks for.
+#[derive(Clone, Copy, Debug)]
+pub struct Range {
+    pub lo: u32,
+    pub hi: u32,
+    pub length: u32,
+    pub wanted: u32,
+}
+
+/// The state of each slot from lo up to, but not including, end.
+fn marks(memory: &[u8], state: State, lo: u32, end: u32) -> Vec<u8> {
+    let mut marks = vec![FREE; (end - lo) as usize];
+    for record in records(memory, state) {
+        let mark = if record.far == 0 { TAKEN } else { REUSABLE };
+        let spacing = state.m1 / record.rate;
+        for k in 0..record.superframes {
+            for j in 0..record.rate {
+                let start = record.first + k * state.m1 + j * spacing;
+                let (from, to) = (start.max(lo), (start + record.length).min(end));
+                if from < to {
+                    for slot in &mut marks[(from - lo) as usize..(to - lo) as usize] {
+                        *slot = mark.max(*slot);
+                    }
+                }
+            }
+        }
+    }
+    marks
+}
+
+#[inline(never)]
+pub fn search(memory: &[u8], state: State, range: &Range, list: &mut [u8]) -> Answer {
+    list.fill(0);
+    let &Range {
+        lo,
+        hi,
+        length,
+        wanted,
+    } = range;
+    if !is_sound(memory, state) {
+        return Err(11);
+    }
+    if lo < state.now || lo > hi || hi > LAST_SLOT || hi - lo >= state.m1 {
+        return Err(19);
+    }
+    if !(1..=32).contains(&length) {
+        return Err(9);
+    }
+    if !(1..=16).contains(&wanted) {
+        return Err(20);
+    }
+    if list.len() / 4 < wanted as usize {
+        return Err(1);
+    }
+    let (length, wanted) = (length as usize, wanted as usize);
+    // The starts of level 0 and of level 1, and how many there are of each.
+    let mut starts = [[0; 16]; 2];
+    let mut found = [0; 2];
+    // The free slots and those not taken, in a row up to here.
+    let (mut free, mut usable) = (0, 0);
+    let marks = marks(memory, state, lo, hi + range.length);
+    for (at, &mark) in marks.iter().enumerate() {
+        free = if mark == FREE { free + 1 } else { 0 };
+        usable = if mark == TAKEN { 0 } else { usable + 1 };
+        if usable >= length {
+            let level = usize::from(free < length);
+            if found[level] < wanted {
+                starts[level][found[level]] = lo + (at + 1 - length) as u32;
+                found[level] += 1;
+            }
+            if found[0] == wanted {
+                break;
+            }
+        }
+    }
+    let answer = starts[0][..found[0]].iter().chain(&starts[1][..found[1]]);
+    for (place, start) in list.chunks_exact_mut(4).zip(answer.take(wanted)) {
+        place.copy_from_slice(&start.to_le_bytes());
+    }
+    match (found[0] + found[1]).min(wanted) {
+        0 => Err(21),
+        number => Ok(number as u32),
+    }
+}
