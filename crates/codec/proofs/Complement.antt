@@ -8,8 +8,8 @@ use mir.Val.{toZ, ofZ, Fits, SFits}
 use mir.Facts.{toZ-pos}
 use lib.IntN.{ℤ, pos, negsuc, natAbs, _+ℤ_}
 use lib.Signed.{ltZ, nonNeg}
-use lib.Dec.{T, ltb}
-use borrow.Author.Tests.{ltb-true, ltb-false, lt-ltb, le-ltb}
+use lib.Dec.{T, ltb, eqb}
+use borrow.Author.Tests.{ltb-true, ltb-false, lt-ltb, le-ltb, eqb-true, eqb-false, ne-eqb}
 use Rattle.octets.proofs.Refusals.{or-false}
 use Rattle.codec.specs.NineOctets.{badOffset, twosOf, signedOf}
 
@@ -34,6 +34,22 @@ twos-signed n h = go (ltb n 128) refl
         let l : 128 ≤ n = ltb-false n 128 (sym e) in
         let k : 255 - (256 - suc n) ≡ n = omega arith in
         simp (← e, lt-ltb n 256 h, k)
+
+-- of the octets, only 128 says a number outside -127..127
+pub octet-offset : (n : ℕ) → n < 256 → badOffset (signedOf n) ≡ eqb n 128
+octet-offset n h = go (ltb n 128) (eqb n 128) refl refl
+  where
+    go : (t u : Bool) → t ≡ ltb n 128 → u ≡ eqb n 128 → badOffset (signedOf n) ≡ u
+    go true u e f =
+        let l : n < 128 = ltb-true n 128 (sym e) in
+        simp (← e, le-ltb 127 n (omega arith)) (sym (ne-eqb n 128 (λ k. omega arith)) ∙ sym f)
+    go false true e f =
+        let k : n ≡ 128 = eqb-true n 128 (sym f) in
+        simp (← e, lt-ltb n 256 h, lt-ltb 126 (256 - suc n) (omega arith))
+    go false false e f =
+        let l : 128 ≤ n = ltb-false n 128 (sym e) in
+        let k : n ≡ 128 → ⊥ = eqb-false n 128 (sym f) in
+        simp (← e, lt-ltb n 256 h, le-ltb 126 (256 - suc n) (omega (arith, k)))
 
 -- ---- as code at 32 bits works it out
 

@@ -1,19 +1,19 @@
 -- What the tests of reading and writing tell of the fields. Assumes nothing.
 use Prim.Native.Nat.{ℕ, _≤_, _<_, _^_}
 use mathlib.Core.Path.{_≡_, refl, sym, _∙_, subst}
-use mathlib.Core.Bool.{Bool, not, _||_}
+use mathlib.Core.Bool.{Bool, true, false, not, _||_}
 use mathlib.Core.List.{List, _∷_}
 use native.Mathlib.Omega.{arith}
-use borrow.Author.Tests.{eq-eqb, ne-eqb, lt-leb, le-ltb, leb-false, ltb-false, eqb-true, not-false}
+use borrow.Author.Tests.{eq-eqb, ne-eqb, lt-leb, lt-ltb, le-ltb, leb-false, ltb-false, eqb-true, not-false}
 use lib.Dec.{eqb, leb, ltb}
 use lib.ListN.{length}
 use Rattle.octets.specs.Octets.{AreOctets}
-use Rattle.octets.specs.Refusals.{firstOf}
+use Rattle.octets.specs.Refusals.{firstOf, outside}
 use Rattle.octets.proofs.Refusals.{firstOf-cons, firstOf-zero, firstOf-most, answer-accepted, answer-says, or-false, outside-false}
 use Rattle.codec.specs.declared.Block.{Block}
 use Rattle.codec.specs.declared.Reading.{Reading}
 use Rattle.codec.specs.declared.Writing.{Writing}
-use Rattle.codec.specs.NineOctets.{octet, bits, blockOf, fieldTests, readTests, writeTests, reading, refusedReading, writing, refusedWriting}
+use Rattle.codec.specs.NineOctets.{octet, bits, blockOf, badCode, badOffset, fieldTests, readTests, writeTests, reading, refusedReading, writing, refusedWriting}
 use Rattle.codec.specs.Steps.{Fitting}
 
 -- ---- the refusal by the tests that led to it
@@ -30,6 +30,38 @@ module _ (s : List ℕ) where
   pub read-fields : length s ≡ 9 → bits 8 4 (octet 9 s) ≡ 2 → firstOf (fieldTests (blockOf s)) ≡ firstOf (readTests s)
   unfolding readTests
   read-fields l h = simp (eq-eqb _ _ l, eq-eqb _ _ h)
+
+module _ (b : Block) where
+  pub field-3 : badCode (b .br) ≡ true → 3 ≡ firstOf (fieldTests b)
+  unfolding fieldTests
+  field-3 k = simp k
+
+  module _ (k : badCode (b .br) ≡ false) where
+    pub field-4 : outside 2 255 (b .roff) ≡ true → 4 ≡ firstOf (fieldTests b)
+    unfolding fieldTests
+    field-4 r = simp (k, r)
+
+    module _ (r : outside 2 255 (b .roff) ≡ false) where
+      pub field-5 : outside 2 255 (b .bs) ≡ true → 5 ≡ firstOf (fieldTests b)
+      unfolding fieldTests
+      field-5 l = simp (k, r, l)
+
+      module _ (l : outside 2 255 (b .bs) ≡ false) where
+        pub field-6 : badOffset (b .bo) ≡ true → 6 ≡ firstOf (fieldTests b)
+        unfolding fieldTests
+        field-6 o = simp (k, r, l, o)
+
+        pub field-0 : badOffset (b .bo) ≡ false → 0 ≡ firstOf (fieldTests b)
+        unfolding fieldTests
+        field-0 o = simp (k, r, l, o)
+
+-- an octet is too low for a field from 2 on, or fits it
+module _ (n : ℕ) where
+  pub octet-low : n < 2 → outside 2 255 n ≡ true
+  octet-low h = simp (lt-ltb n 2 h)
+
+  pub octet-inside : 2 ≤ n → n < 256 → outside 2 255 n ≡ false
+  octet-inside l h = simp (le-ltb n 2 l, le-ltb 255 n (omega arith))
 
 pub write-fields : (b : Block) → b .d < 2 ^ 27 → b .blg ≤ 31 → b .bt ≤ 3 → firstOf (fieldTests b) ≡ firstOf (writeTests b)
 unfolding writeTests

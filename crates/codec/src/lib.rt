@@ -1,9 +1,8 @@
 // The nine octets of a superframe block reservation, read and written; the rate lookup; the parameter check.
 ghost use mathlib.Core.Path.{_≡_};
-ghost use mathlib.Core.Bool.{false};
+ghost use mathlib.Core.Bool.{false, cond};
 ghost use mathlib.Core.List.{[], _∷_};
-ghost use lib.Dec.{leb};
-ghost use lib.ListN.{length};
+ghost use lib.Dec.{leb, eqb};
 ghost use Rattle.octets.specs.Lists.{every};
 ghost use Rattle.octets.specs.Refusals.{firstOf};
 ghost use Rattle.codec.specs.NineOctets.{bits, signedOf, twosOf, badOffset, badCode, fieldTests, writeTests, blockOf, octetsOf, reading, refusedReading, writing};
@@ -91,6 +90,13 @@ fn high_bits(octet4: u8) -> u32
     (octet4 as u32) % 8
 }
 
+// The rate code, which octet 6 holds in its bits 4-1.
+fn rate_code(octet6: u8) -> u32
+    ensures { λ r. ⌜ r ≡ bits 4 1 octet6 ⌝ }
+{
+    (octet6 as u32) % 16
+}
+
 // The extended reservation ID, which octet 9 holds in its bits 8-4.
 fn extended_id(octet9: u8) -> u8
     ensures { λ r. ⌜ r ≡ bits 8 4 octet9 ⌝ }
@@ -106,32 +112,15 @@ fn fields(o1: u8, o2: u8, o3: u8, o4: u8, o5: u8, o6: u8, o7: u8, o8: u8, o9: u8
         d: high_bits(o4) * 16777216 + (o1 as u32) * 65536 + (o2 as u32) * 256 + (o3 as u32),
         blg: (o4 as u32) / 8,
         roff: o5 as u32,
-        br: (o6 as u32) % 16,
+        br: rate_code(o6),
         bs: o7 as u32,
         bo: signed(o8),
         bt: (o9 as u32) % 4,
     }
 }
 
-// The same, out of a slice of nine.
-fn load(octets: &[u8]) -> Block
-    requires { ⌜ length (now octets) ≡ 9 ⌝ }
-    ensures { λ r. ⌜ r ≡ blockOf (now (octets .entry)) ⌝ }
-{
-    fields(
-        octets[0],
-        octets[1],
-        octets[2],
-        octets[3],
-        octets[4],
-        octets[5],
-        octets[6],
-        octets[7],
-        octets[8],
-    )
-}
-
-fn refused_reading(n: u32) -> Reading
+// A reading that is refused: its number, and all fields 0.
+pub fn refused_reading(n: u32) -> Reading
     ensures { λ r. ⌜ r ≡ refusedReading n ⌝ }
 {
     Reading {
@@ -148,7 +137,8 @@ fn refused_reading(n: u32) -> Reading
     }
 }
 
-// Reads a reservation. Refused, in this order: 1, 2, 3, 4, 5, 6.
+// Reads a reservation. Refused, in this order: 1, 2, 3, 4, 5, 6. The octets are judged before the fields are built, and no octet says a
+// number too high for its field.
 pub fn read(octets: &[u8]) -> Reading
     ensures { λ r. ⌜ r ≡ reading (now (octets .entry)) ⌝ }
 {
@@ -158,11 +148,30 @@ pub fn read(octets: &[u8]) -> Reading
     if extended_id(octets[8]) != 2 {
         return refused_reading(2);
     }
-    let b = load(octets);
-    let n = judge_fields(b);
-    if n != 0 {
-        return refused_reading(n);
+    let br = rate_code(octets[5]);
+    if bad_code(br) {
+        return refused_reading(3);
     }
+    if octets[4] < 2 {
+        return refused_reading(4);
+    }
+    if octets[6] < 2 {
+        return refused_reading(5);
+    }
+    if octets[7] == 128 {
+        return refused_reading(6);
+    }
+    let b = fields(
+        octets[0],
+        octets[1],
+        octets[2],
+        octets[3],
+        octets[4],
+        octets[5],
+        octets[6],
+        octets[7],
+        octets[8],
+    );
     Reading {
         refusal: 0,
         block: b,
@@ -261,23 +270,29 @@ fn bad_list(rates: &[u8]) -> bool
     !low | (rates[7] != 0) | (rates[14] != 0) | (rates[15] != 0)
 }
 
-// The rate that a code stands for in a list of sixteen. Refused, in this order: 7, 3.
+// The refusal of a code by its entry, which is 0 where the code has no rate.
+fn judge_entry(entry: u8) -> u32
+    ensures { λ r. ⌜ r ≡ cond (eqb entry 0) 3 0 ⌝ }
+{
+    if entry == 0 { 3 } else { 0 }
+}
+
+// The rate that a code stands for in a list of sixteen. Refused, in this order: 7, 3. A good list has 0 at 7, 14 and 15, so that the
+// entry tells of every code up to 15 whether it has a rate.
 pub fn rate(rates: &[u8], code: u32) -> Found
     ensures { λ r. ⌜ r ≡ rateFound (now (rates .entry)) code ⌝ }
 {
     if bad_list(rates) {
         return refused_found(7);
     }
-    if bad_code(code) {
+    if 15 < code {
         return refused_found(3);
     }
-    let r = rates[code as usize];
-    if r == 0 {
-        return refused_found(3);
-    }
+    let entry = rates[code as usize];
+    let n = judge_entry(entry);
     Found {
-        refusal: 0,
-        number: r as u32,
+        refusal: n,
+        number: entry as u32,
     }
 }
 

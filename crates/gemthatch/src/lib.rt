@@ -82,7 +82,13 @@ fn search_places(s: State, memory: &[u8], q: Query, starts: &mut [u32], places: 
 pub extern "C" fn gemthatch_read(octets: &[u8]) -> Reading
     ensures { λ r. ⌜ r ≡ reading (now (octets .entry)) ⌝ }
 {
-    codec::read(octets)
+    let r = codec::read(octets);
+    let refusal = r.refusal;
+    // Out by an exit of its own: where the two ways met, every field would first have to find a register.
+    if refusal != 0 {
+        return codec::refused_reading(refusal);
+    }
+    r
 }
 
 // Writes a reservation. Refused, in this order: 8, 9, 3, 4, 5, 6.

@@ -1,3 +1,4 @@
 pub mod Cases
 pub mod SomeBelow
+pub mod Blocks
 pub mod Series

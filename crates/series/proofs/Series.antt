@@ -2,24 +2,11 @@
 use Prim.Native.Nat.{ℕ, _+_, _-_, _*_, _/_, _≤_, _<_}
 use native.Mathlib.Nat.{mul-le-mul-right}
 use native.Mathlib.Omega.{arith}
-use mathlib.Core.Path.{_≡_}
-use mathlib.Core.Bool.{true, and-eq-true-iff}
-use lib.Dec.{leb, ltb}
-use borrow.Author.Tests.{leb-true, ltb-true, le-leb, lt-ltb}
 use Rattle.record.specs.declared.Rec.{Rec}
 use Rattle.series.specs.Series.{someBelow, start, inBlock, reserves, lastSlot}
 use Rattle.series.specs.Claims.{LastReserved, NoneOutside}
 use Rattle.series.proofs.SomeBelow.{someBelow-at, someBelow-elim}
-
-inBlock-true : (from length slot : ℕ) → from ≤ slot → slot < from + length → inBlock from length slot ≡ true
-unfolding inBlock
-inBlock-true from length slot h l = rw (le-leb from slot h, lt-ltb slot (from + length) l)
-
-inBlock-both : (from length slot : ℕ) → inBlock from length slot ≡ true → (from ≤ slot) × (slot < from + length)
-unfolding inBlock
-inBlock-both from length slot h =
-    let p = and-eq-true-iff (leb from slot) (ltb slot (from + length)) .0 h in
-    (leb-true from slot (p .0), ltb-true slot (from + length) (p .1))
+use Rattle.series.proofs.Blocks.{inBlock-true, inBlock-both}
 
 -- no block starts after the last
 start-last : (m1 : ℕ) (r : Rec) (k j : ℕ) → k < r .superframes → j < r .rate → start m1 r k j ≤ start m1 r (r .superframes - 1) (r .rate - 1)

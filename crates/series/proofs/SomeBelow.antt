@@ -1,5 +1,5 @@
 -- Laws of `someBelow`. Assumes nothing.
-use Prim.Native.Nat.{ℕ, zero, suc, _+_, _<_}
+use Prim.Native.Nat.{ℕ, zero, suc, _+_, _<_, _≤_}
 use mathlib.Core.Path.{_≡_, refl}
 use mathlib.Core.Bool.{Bool, true, false, _||_, false≢true}
 use mathlib.Core.Logic.{⊎-elim}
@@ -21,6 +21,15 @@ someBelow-at (suc n) p k l h =
 pub someBelow-more : (n : ℕ) (p : ℕ → Bool) → someBelow n p ≡ false → p n ≡ false → someBelow (n + 1) p ≡ false
 unfolding someBelow
 someBelow-more n p h e = rw (add-one, h, e)
+
+-- none below n passes, where none below k does and none from k on
+pub someBelow-rest : (n : ℕ) (p : ℕ → Bool) (k : ℕ) → k ≤ n → someBelow k p ≡ false → ((i : ℕ) → k ≤ i → i < n → p i ≡ false) → someBelow n p ≡ false
+unfolding someBelow
+someBelow-rest zero p k l h f = refl
+someBelow-rest (suc n) p k l h f =
+    ⊎-elim (λ (e : k ≡ suc n). rw e at h)
+    (λ (e : k < suc n). rw (someBelow-rest n p k (omega arith) h (λ i a b. f i a (omega arith)), f n (omega arith) (omega arith)))
+    (eq-or-lt-of-le l)
 
 -- what follows from each number that passes follows
 pub someBelow-elim : {X : Type 0} (n : ℕ) (p : ℕ → Bool) → ((k : ℕ) → k < n → p k ≡ true → X) → someBelow n p ≡ true → X

@@ -1,7 +1,7 @@
 // The block series of a record: which slots it reserves, and its last one.
 use record::Rec;
 ghost use mathlib.Core.Path.{_≡_};
-ghost use Prim.Native.Nat.{_+_, _-_, _*_, _/_, _≤_};
+ghost use Prim.Native.Nat.{_+_, _-_, _*_, _/_, _≤_, _<_};
 ghost use Rattle.series.specs.Series.{someBelow, inBlock, reserves, lastSlot};
 ghost use Rattle.series.specs.Claims.{Claims};
 
@@ -40,46 +40,55 @@ fn to_block(j: u64, m1: u64, rate: u64) -> u64
     times(j, quotient(m1, rate))
 }
 
-// Whether a slot is one of the length slots from start.
-fn in_block(start: u64, length: u64, slot: u64) -> bool
-    requires { ⌜ (start ≤ 4398046511104) × (length ≤ 255) ⌝ }
-    ensures { λ b. ⌜ b ≡ inBlock start length slot ⌝ }
+// Whether one of a superframe's blocks holds a slot, where the last of them is not over before it.
+// They are tried in turn: the first that is not over tells, as no later one starts before it.
+fn in_blocks(base: u64, spacing: u64, rate: u64, length: u64, slot: u64) -> bool
+    requires { ⌜ (base ≤ 4294967295) × (spacing ≤ 4294967295) × (length ≤ 255) × (slot ≤ 4294967295) ⌝ }
+    requires { ⌜ (0 < rate) × (slot < base + (rate - 1) * spacing + length) ⌝ }
+    ensures { λ b. ⌜ b ≡ someBelow rate (λ j. inBlock (base + j * spacing) length slot) ⌝ }
 {
-    let a = start <= slot;
-    let b = slot < start + length;
-    a & b
-}
-
-// Whether one of the blocks of a superframe, the first of which starts at base, holds a slot.
-fn in_superframe(base: u64, m1: u64, rate: u64, length: u64, slot: u64) -> bool
-    requires { ⌜ (base ≤ 1099511627776) × (m1 ≤ 4294967295) × (rate ≤ 255) × (length ≤ 255) ⌝ }
-    ensures { λ b. ⌜ b ≡ someBelow rate (λ j. inBlock (base + j * (m1 / rate)) length slot) ⌝ }
-{
-    let mut j = 0;
-    while j < rate {
-        if in_block(base + to_block(j, m1, rate), length, slot) {
-            return true;
-        }
-        j += 1;
+    let mut start = base;
+    while start + length <= slot {
+        start += spacing;
     }
-    false
+    start <= slot
 }
 
-// Whether a record reserves a slot: its blocks are tried in turn.
+// The same for any superframe: it is skipped where its last block is over before the slot.
+fn in_superframe(base: u64, spacing: u64, rate: u64, length: u64, slot: u64) -> bool
+    requires { ⌜ (base ≤ 4294967295) × (spacing ≤ 4294967295) × (rate ≤ 255) × (length ≤ 255) × (slot ≤ 4294967295) ⌝ }
+    ensures { λ b. ⌜ b ≡ someBelow rate (λ j. inBlock (base + j * spacing) length slot) ⌝ }
+{
+    if rate == 0 {
+        return false;
+    }
+    let last = base + times(rate - 1, spacing);
+    if last + length <= slot {
+        return false;
+    }
+    in_blocks(base, spacing, rate, length, slot)
+}
+
+// Whether a record reserves a slot: its superframes are tried in turn, up to the first that starts past it.
 pub fn reserves(r: Rec, m1: u32, slot: u32) -> bool
     ensures { λ b. ⌜ b ≡ reserves m1 r slot ⌝ }
 {
     let m = m1 as u64;
     let s = slot as u64;
-    let first = r.first as u64;
     let rate = r.rate as u64;
     let superframes = r.superframes as u64;
     let length = r.length as u64;
+    let spacing = quotient(m, rate);
+    let mut base = r.first as u64;
     let mut k = 0;
     while k < superframes {
-        if in_superframe(first + times(k, m), m, rate, length, s) {
+        if s < base {
+            return false;
+        }
+        if in_superframe(base, spacing, rate, length, s) {
             return true;
         }
+        base += m;
         k += 1;
     }
     false

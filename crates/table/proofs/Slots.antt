@@ -25,25 +25,34 @@ judged-end true = refl
 judged-end false = refl
 
 module _ (p : Rec → Bool) (any : Bool) (r : Rec) (rs : List Rec) where
+  -- whether the record passes and is asked: a far one is not where `any` is true
+  abbrev asked : Bool
+  asked = not (any && heldFar r) && p r
+
   -- a near holder settles it
-  pub judged-near : (p r && not (heldFar r)) ≡ true → judged any (keep p (r ∷ rs)) ≡ Taken
+  pub judged-near : (asked && not (heldFar r)) ≡ true → judged any (keep p (r ∷ rs)) ≡ Taken
   unfolding judged stateBy
   judged-near h = go any (p r) (heldFar r) refl h
     where
-      go : (any a b : Bool) → heldFar r ≡ b → (a && not b) ≡ true → judged any (cond a (r ∷ keep p rs) (keep p rs)) ≡ Taken
+      go : (any a b : Bool) → heldFar r ≡ b → ((not (any && b) && a) && not b) ≡ true → judged any (cond a (r ∷ keep p rs) (keep p rs)) ≡ Taken
       go true true false e h = rw e
       go false true false e h = rw e
-      go any true true e h = absurd (false≢true h)
-      go any false b e h = absurd (false≢true h)
+      go true true true e h = absurd (false≢true h)
+      go false true true e h = absurd (false≢true h)
+      go true false true e h = absurd (false≢true h)
+      go true false false e h = absurd (false≢true h)
+      go false false b e h = absurd (false≢true h)
 
   -- any other record is a far holder or none
-  pub judged-next : (p r && not (heldFar r)) ≡ false → judged any (keep p (r ∷ rs)) ≡ judged (any || p r) (keep p rs)
+  pub judged-next : (asked && not (heldFar r)) ≡ false → judged any (keep p (r ∷ rs)) ≡ judged (any || asked) (keep p rs)
   unfolding judged stateBy
   judged-next h = go any (p r) (heldFar r) refl h
     where
-      go : (any a b : Bool) → heldFar r ≡ b → (a && not b) ≡ false → judged any (cond a (r ∷ keep p rs) (keep p rs)) ≡ judged (any || a) (keep p rs)
+      go : (any a b : Bool) → heldFar r ≡ b → ((not (any && b) && a) && not b) ≡ false
+          → judged any (cond a (r ∷ keep p rs) (keep p rs)) ≡ judged (any || (not (any && b) && a)) (keep p rs)
       go true true true e h = rw e
       go false true true e h = rw e
-      go any true false e h = absurd (true≢false h)
+      go true true false e h = absurd (true≢false h)
+      go false true false e h = absurd (true≢false h)
       go true false b e h = refl
       go false false b e h = refl

@@ -13,7 +13,7 @@ ghost use Rattle.sound.specs.Sound.{records, sound};
 ghost use Rattle.table.specs.Table.{clock, reserve, distance, wipe, bit, same, of, setFar, requestTests};
 ghost use Rattle.table.specs.Memory.{channel, packed, leaves, returned, openLeaves, openReturned};
 ghost use Rattle.table.specs.Slots.{slotState, slotAnswer};
-ghost use Rattle.table.specs.Steps.{stays, sieved, mapped, refused, swept, added, addedMemory};
+ghost use Rattle.table.specs.Steps.{stays, sieved, mapped, refused, swept, added, addedMemory, holdsMore};
 
 // What stands beside the lent memory. It travels by value.
 pub struct State {
@@ -406,6 +406,17 @@ impl State {
 
 // ---- the slot state
 
+// Whether a record holds a slot. A far one is not asked where far ones do already: it changes nothing then.
+fn holds_more(r: Rec, m1: u32, slot: u32, any: bool) -> bool
+    ensures { λ b. ⌜ b ≡ holdsMore m1 slot any r ⌝ }
+{
+    let far = r.far == 1;
+    if any & far {
+        return false;
+    }
+    series::reserves(r, m1, slot)
+}
+
 // The state of any slot by the records held: it neither tests the table nor refuses a slot, and stops at the first near holder.
 pub fn judge(s: State, mem: &[u8], slot: u32) -> Slot
     ensures { λ r. ⌜ r ≡ slotState (s .m1) (records (channel s (now (mem .entry)))) slot ⌝ }
@@ -415,7 +426,7 @@ pub fn judge(s: State, mem: &[u8], slot: u32) -> Slot
     let mut i = 0;
     while i < held {
         let r = record::load(mem, i);
-        let holds = series::reserves(r, s.m1, slot);
+        let holds = holds_more(r, s.m1, slot, any);
         let near = r.far != 1;
         if holds & near {
             return Slot::Taken;

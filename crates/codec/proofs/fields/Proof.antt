@@ -31,19 +31,22 @@ add-t17 c = search needs
 add-t19 : tie.Need-add-t19
 add-t19 c = search needs
 
+rate-code-requires : tie.Need-rate-code-requires
+rate-code-requires c κs = search needs
+
 signed-requires : tie.Need-signed-requires
 signed-requires c κs = search needs
 
 returns : tie.Need-returns
 returns c =
-    let a = c .before .before .args in
+    let a = c .before .before .before .args in
     let blg-bits : bits 8 4 (a .o4) ≡ a .o4 / 8 = omega arith in
     rw (
       toZ-ofZ {w = w32} {z = c .signed .result} (record { sfits = c .signed .ok }),
       c .signed .ensures,
-      c .before .high-bits .ensures,
+      c .before .before .high-bits .ensures,
+      c .before .rate-code .ensures,
       blg-bits,
-      div-one (a .o6),
       div-one (a .o9),
     )
 
@@ -58,5 +61,6 @@ fields-spec =
     mul-t16
     add-t17
     add-t19
+    rate-code-requires
     signed-requires
     returns)

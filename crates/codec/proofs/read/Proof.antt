@@ -1,25 +1,40 @@
--- `codec::read` meets its contract: each answer by the law for its refusal. Assumes nothing.
+-- `codec::read` meets its contract: each answer by the law for its refusal; what an octet says of its field. Assumes nothing.
 use mathlib.Core.Path.{_≡_, sym, _∙_, ap}
+use mathlib.Core.Bool.{false}
 use native.Mathlib.Omega.{arith}
 use denote.Ref.{now}
 use borrow.Author.Needs.{needs}
-use Rattle.octets.specs.Refusals.{firstOf}
+use borrow.Author.Tests.{eq-eqb, ne-eqb}
+use lib.Dec.{eqb}
+use Rattle.octets.specs.Refusals.{firstOf, outside}
 use Rattle.octets.proofs.Refusals.{answer-refused, answer-accepted}
 use Rattle.codec.specs.declared.Block.{Block}
-use Rattle.codec.specs.NineOctets.{octet, bits, fieldTests, readTests}
-use Rattle.codec.proofs.Tests.{read-1, read-2, read-fields}
+use Rattle.codec.specs.NineOctets.{octet, blockOf, badCode, badOffset, fieldTests, readTests}
+use Rattle.codec.proofs.Tests.{read-1, read-2, read-fields, field-3, field-4, field-5, field-6, field-0, octet-low, octet-inside}
+use Rattle.codec.proofs.Complement.{octet-offset}
 use Rattle.codec.proofs.read.Statement.{statement}
 use Rattle.codec.proofs.read.Tie as tie
 
--- the extended ID is right
-id : (c : tie.Else2) → bits 8 4 (octet 9 (now (c .before .before .before .before .before .args .octets))) ≡ 2
-id c = sym (c .before .extended-id .ensures) ∙ c .if2 .left
+-- what the octets hold
+abbrev block : tie.Else2 → Block
+block c = blockOf (now (c .before .before .before .before .before .args .octets))
 
-judged : (c : tie.After-judge-fields) → c .judge-fields .result ≡ firstOf (readTests (now (c .before .before .before .before .before .before .before .args .octets)))
-judged c =
-    c .judge-fields .ensures
-    ∙ ap (λ (b : Block). firstOf (fieldTests b)) (c .before .load .ensures)
-    ∙ read-fields _ (c .before .before .before .before .before .if1 .left) (id (c .before .before))
+-- nine octets with the right extended ID are refused by their fields
+by-fields : (c : tie.Else2) → firstOf (fieldTests (block c)) ≡ firstOf (readTests (now (c .before .before .before .before .before .args .octets)))
+by-fields c = read-fields _ (c .before .before .before .if1 .left) (sym (c .before .extended-id .ensures) ∙ c .if2 .left)
+
+good-code : (c : tie.Else3) → badCode (block (c .before .before .before .before) .br) ≡ false
+good-code c = ap badCode (sym (c .before .before .rate-code .ensures)) ∙ sym (c .before .bad-code .ensures) ∙ c .if3 .left
+
+good-roff : (c : tie.Else4) → outside 2 255 (block (c .before .before .before .before .before .before) .roff) ≡ false
+good-roff c = octet-inside _ (c .if4 .left) (omega (arith, c .before .shared-slice-known4 .given 4))
+
+good-bs : (c : tie.Else5) → outside 2 255 (block (c .before .before .before .before .before .before .before .before) .bs) ≡ false
+good-bs c = octet-inside _ (c .if5 .left) (omega (arith, c .before .shared-slice-known5 .given 6))
+
+-- of the octets of an offset, only 128 is bad
+offset : (c : tie.After-shared-slice-known6) → badOffset (block (c .before .before .before .before .before .before .before .before .before) .bo) ≡ eqb (octet 8 (now (c .before .before .before .before .before .before .before .before .before .before .before .before .before .before .args .octets))) 128
+offset c = octet-offset (octet 8 (now (c .before .before .before .before .before .before .before .before .before .before .before .before .before .before .args .octets))) (omega (arith, c .shared-slice-known6 .given 7))
 
 refused-reading-requires : tie.Need-refused-reading-requires
 refused-reading-requires c κs = search needs
@@ -43,20 +58,109 @@ returns-2 c =
     (read-2 _ (c .before .before .before .before .if1 .left) (λ e. c .before .if2 .taken (c .before .before .extended-id .ensures ∙ e)))
     (omega arith)
 
-load-requires : tie.Need-load-requires
-load-requires c κs = search needs
+shared-slice-read-rate-code : tie.Need-shared-slice-read-rate-code
+shared-slice-read-rate-code c = search needs
 
-judge-fields-requires : tie.Need-judge-fields-requires
-judge-fields-requires c κs = search needs
+rate-code-requires : tie.Need-rate-code-requires
+rate-code-requires c κs = search needs
+
+bad-code-requires : tie.Need-bad-code-requires
+bad-code-requires c κs = search needs
 
 refused-reading-requires-3 : tie.Need-refused-reading-requires-3
 refused-reading-requires-3 c κs = search needs
 
 returns-3 : tie.Need-returns-3
-returns-3 c = c .refused-reading3 .ensures ∙ answer-refused _ _ (judged (c .before .before)) (c .before .if3 .taken)
+returns-3 c =
+    let two = c .before .before .before .before .before in
+    let bad = ap badCode (sym (c .before .before .before .rate-code .ensures)) ∙ sym (c .before .before .bad-code .ensures) ∙ c .before .if3 .taken in
+    c .refused-reading3 .ensures ∙ answer-refused _ _ (field-3 (block two) bad ∙ by-fields two) (omega arith)
+
+shared-slice-read-if4 : tie.Need-shared-slice-read-if4
+shared-slice-read-if4 c = search needs
+
+refused-reading-requires-4 : tie.Need-refused-reading-requires-4
+refused-reading-requires-4 c κs = search needs
 
 returns-4 : tie.Need-returns-4
-returns-4 c = rw (c .before .before .load .ensures) (answer-accepted _ _ (sym (c .if3 .left) ∙ judged (c .before)))
+returns-4 c =
+    let three = c .before .before .before in
+    let two = three .before .before .before .before in
+    c .refused-reading4 .ensures
+    ∙ answer-refused _ _ (field-4 (block two) (good-code three) (octet-low _ (c .before .if4 .taken)) ∙ by-fields two) (omega arith)
+
+shared-slice-read-if5 : tie.Need-shared-slice-read-if5
+shared-slice-read-if5 c = search needs
+
+refused-reading-requires-5 : tie.Need-refused-reading-requires-5
+refused-reading-requires-5 c κs = search needs
+
+returns-5 : tie.Need-returns-5
+returns-5 c =
+    let four = c .before .before .before in
+    let three = four .before .before in
+    let two = three .before .before .before .before in
+    c .refused-reading5 .ensures
+    ∙ answer-refused _ _
+    (field-5 (block two) (good-code three) (good-roff four) (octet-low _ (c .before .if5 .taken)) ∙ by-fields two)
+    (omega arith)
+
+shared-slice-read-if6 : tie.Need-shared-slice-read-if6
+shared-slice-read-if6 c = search needs
+
+refused-reading-requires-6 : tie.Need-refused-reading-requires-6
+refused-reading-requires-6 c κs = search needs
+
+returns-6 : tie.Need-returns-6
+returns-6 c =
+    let five = c .before .before .before in
+    let four = five .before .before in
+    let three = four .before .before in
+    let two = three .before .before .before .before in
+    let bad = offset (c .before .before) ∙ eq-eqb _ _ (c .before .if6 .taken) in
+    c .refused-reading6 .ensures
+    ∙ answer-refused _ _ (field-6 (block two) (good-code three) (good-roff four) (good-bs five) bad ∙ by-fields two) (omega arith)
+
+shared-slice-read-fields : tie.Need-shared-slice-read-fields
+shared-slice-read-fields c = search needs
+
+shared-slice-read-fields-2 : tie.Need-shared-slice-read-fields-2
+shared-slice-read-fields-2 c = search needs
+
+shared-slice-read-fields-3 : tie.Need-shared-slice-read-fields-3
+shared-slice-read-fields-3 c = search needs
+
+shared-slice-read-fields-4 : tie.Need-shared-slice-read-fields-4
+shared-slice-read-fields-4 c = search needs
+
+shared-slice-read-fields-5 : tie.Need-shared-slice-read-fields-5
+shared-slice-read-fields-5 c = search needs
+
+shared-slice-read-fields-6 : tie.Need-shared-slice-read-fields-6
+shared-slice-read-fields-6 c = search needs
+
+shared-slice-read-fields-7 : tie.Need-shared-slice-read-fields-7
+shared-slice-read-fields-7 c = search needs
+
+shared-slice-read-fields-8 : tie.Need-shared-slice-read-fields-8
+shared-slice-read-fields-8 c = search needs
+
+shared-slice-read-fields-9 : tie.Need-shared-slice-read-fields-9
+shared-slice-read-fields-9 c = search needs
+
+fields-requires : tie.Need-fields-requires
+fields-requires c κs = search needs
+
+returns-7 : tie.Need-returns-7
+returns-7 c =
+    let six = c .before .before .before .before .before .before .before .before .before .before in
+    let five = six .before .before in
+    let four = five .before .before in
+    let three = four .before .before in
+    let two = three .before .before .before .before in
+    let good = offset (six .before) ∙ ne-eqb _ _ (six .if6 .left) in
+    ap (λ (b : Block). record { refusal = 0; block = b }) (c .fields .ensures)
+    ∙ answer-accepted _ _ (field-0 (block two) (good-code three) (good-roff four) (good-bs five) good ∙ by-fields two)
 
 pub read-spec : {M : Type 1} → statement M
 read-spec =
@@ -68,8 +172,28 @@ read-spec =
     extended-id-requires
     refused-reading-requires-2
     returns-2
-    load-requires
-    judge-fields-requires
+    shared-slice-read-rate-code
+    rate-code-requires
+    bad-code-requires
     refused-reading-requires-3
     returns-3
-    returns-4)
+    shared-slice-read-if4
+    refused-reading-requires-4
+    returns-4
+    shared-slice-read-if5
+    refused-reading-requires-5
+    returns-5
+    shared-slice-read-if6
+    refused-reading-requires-6
+    returns-6
+    shared-slice-read-fields
+    shared-slice-read-fields-2
+    shared-slice-read-fields-3
+    shared-slice-read-fields-4
+    shared-slice-read-fields-5
+    shared-slice-read-fields-6
+    shared-slice-read-fields-7
+    shared-slice-read-fields-8
+    shared-slice-read-fields-9
+    fields-requires
+    returns-7)

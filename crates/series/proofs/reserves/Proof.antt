@@ -1,22 +1,24 @@
--- `series::reserves` meets its contract: no superframe before the one that is tried holds the slot. Assumes nothing.
+-- `series::reserves` meets its contract: no superframe before the one that is tried holds the slot, and none from one on that starts past it. Assumes nothing.
 use Prim.Native.Nat.{ℕ, _≤_, _+_, _-_, _*_, _/_}
+use native.Mathlib.Nat.{mul-le-mul-right}
 use mathlib.Core.Bool.{Bool, true, false}
 use mathlib.Core.Path.{_≡_, refl, sym, _∙_}
 use native.Mathlib.Omega.{arith}
 use Rattle.series.specs.Series.{someBelow, inBlock, reserves}
-use Rattle.series.proofs.SomeBelow.{someBelow-at, someBelow-more}
+use Rattle.series.proofs.SomeBelow.{someBelow-at, someBelow-more, someBelow-rest}
+use Rattle.series.proofs.Blocks.{none-ahead}
 use borrow.Author.Needs.{needs}
 use Rattle.series.proofs.reserves.Statement.{statement}
 use Rattle.series.proofs.reserves.Tie as tie
 
 abbrev Inv-loop : tie.InvT-loop
-Inv-loop m1 slot m s first rate superframes length k₀ k = (k ≤ superframes) × (someBelow k (λ i. someBelow rate (λ j. inBlock (first + i * m1 + j * (m1 / rate)) length slot)) ≡ false)
+Inv-loop m1 slot m s rate superframes length spacing base₀ k₀ base k =
+    (base ≡ base₀ + k * m1)
+    × (k ≤ superframes)
+    × (someBelow k (λ i. someBelow rate (λ j. inBlock (base₀ + i * m1 + j * (m1 / rate)) length slot)) ≡ false)
 
 abbrev μ-loop : tie.MeasureT-loop
-μ-loop m1 slot m s first rate superframes length k₀ k = superframes - k
-
-cast-first : tie.Need-cast-first Inv-loop μ-loop
-cast-first c = search needs
+μ-loop m1 slot m s rate superframes length spacing base₀ k₀ base k = superframes - k
 
 cast-rate : tie.Need-cast-rate Inv-loop μ-loop
 cast-rate c = search needs
@@ -27,27 +29,40 @@ cast-superframes c = search needs
 cast-length : tie.Need-cast-length Inv-loop μ-loop
 cast-length c = search needs
 
+quotient-requires : tie.Need-quotient-requires Inv-loop μ-loop
+quotient-requires c κs = search needs
+
+cast-base : tie.Need-cast-base Inv-loop μ-loop
+cast-base c = search needs
+
 loop-holds : tie.Need-loop-holds Inv-loop μ-loop
 unfolding someBelow
-loop-holds c = (search needs, refl)
-
-times-requires : tie.Need-times-requires Inv-loop μ-loop
-times-requires c κs = search needs
-
-add-in-superframe : tie.Need-add-in-superframe Inv-loop μ-loop
-add-in-superframe c = search needs
-
-in-superframe-requires : tie.Need-in-superframe-requires Inv-loop μ-loop
-in-superframe-requires c κs = search needs
+loop-holds c = (omega arith, search needs, refl)
 
 returns : tie.Need-returns Inv-loop μ-loop
 unfolding reserves
 returns c =
-    let h = c .before .before .before .before in
-    let a = h .before .before .before .before .before .args in
+    let h = c .before .before in
+    let a = h .before .before .before .before .before .before .args in
     let p : ℕ → Bool = λ i. someBelow (a .r .rate) (λ j. inBlock (a .r .first + i * a .m1 + j * (a .m1 / a .r .rate)) (a .r .length) (a .slot)) in
-    let e : p (h .loop .k) ≡ true = simp (← c .before .before .times .ensures .0) (sym (c .before .in-superframe .ensures) ∙ c .if1 .taken) in
+    sym (someBelow-rest (a .r .superframes) p (h .loop .k) (omega arith) (h .loop .inv .2) (λ i l _.
+    let m : h .loop .k * a .m1 ≤ i * a .m1 = mul-le-mul-right (a .m1) l in
+    none-ahead (a .r .first + i * a .m1) (a .m1 / a .r .rate) (a .r .length) (a .slot) (a .r .rate) (omega arith)))
+
+in-superframe-requires : tie.Need-in-superframe-requires Inv-loop μ-loop
+in-superframe-requires c κs = search needs
+
+returns-2 : tie.Need-returns-2 Inv-loop μ-loop
+unfolding reserves
+returns-2 c =
+    let h = c .before .before .before .before in
+    let a = h .before .before .before .before .before .before .args in
+    let p : ℕ → Bool = λ i. someBelow (a .r .rate) (λ j. inBlock (a .r .first + i * a .m1 + j * (a .m1 / a .r .rate)) (a .r .length) (a .slot)) in
+    let e : p (h .loop .k) ≡ true = simp (← h .loop .inv .0, ← h .before .before .quotient .ensures .0) (sym (c .before .in-superframe .ensures) ∙ c .if2 .taken) in
     sym (someBelow-at (a .r .superframes) p (h .loop .k) (omega arith) e)
+
+add-base : tie.Need-add-base Inv-loop μ-loop
+add-base c = search needs
 
 add-k : tie.Need-add-k Inv-loop μ-loop
 add-k c = search needs
@@ -58,18 +73,18 @@ loop-less c = search needs
 loop-again : tie.Need-loop-again Inv-loop μ-loop
 loop-again c =
     let h = c .before .before .before .before in
-    let a = h .before .before .before .before .before .args in
+    let a = h .before .before .before .before .before .before .args in
     let p : ℕ → Bool = λ i. someBelow (a .r .rate) (λ j. inBlock (a .r .first + i * a .m1 + j * (a .m1 / a .r .rate)) (a .r .length) (a .slot)) in
-    let e : p (h .loop .k) ≡ false = simp (← c .before .before .times .ensures .0) (sym (c .before .in-superframe .ensures) ∙ c .if1 .left) in
-    (omega arith, someBelow-more (h .loop .k) p (h .loop .inv .1) e)
+    let e : p (h .loop .k) ≡ false = simp (← h .loop .inv .0, ← h .before .before .quotient .ensures .0) (sym (c .before .in-superframe .ensures) ∙ c .if2 .left) in
+    (omega arith, omega arith, someBelow-more (h .loop .k) p (h .loop .inv .2) e)
 
-returns-2 : tie.Need-returns-2 Inv-loop μ-loop
+returns-3 : tie.Need-returns-3 Inv-loop μ-loop
 unfolding reserves
-returns-2 c =
+returns-3 c =
     let h = c .before in
-    let a = h .before .before .before .before .before .args in
+    let a = h .before .before .before .before .before .before .args in
     let e : h .loop .k ≡ a .r .superframes = omega arith in
-    sym (rw e at (h .loop .inv .1))
+    sym (rw e at (h .loop .inv .2))
 
 pub reserves-spec : {M : Type 1} → statement M
 reserves-spec =
@@ -77,16 +92,17 @@ reserves-spec =
     (tie.spec
     Inv-loop
     μ-loop
-    cast-first
     cast-rate
     cast-superframes
     cast-length
+    quotient-requires
+    cast-base
     loop-holds
-    times-requires
-    add-in-superframe
-    in-superframe-requires
     returns
+    in-superframe-requires
+    returns-2
+    add-base
     add-k
     loop-less
     loop-again
-    returns-2)
+    returns-3)
