@@ -1,19 +1,26 @@
 -- `table::holds_more` meets its contract: it computes the definition. Assumes nothing.
+use mathlib.Core.Path.{sym, ap, _∙_}
+use mathlib.Core.Bool.{Bool, not, _&&_}
 use borrow.Author.Needs.{needs}
+use Rattle.series.specs.Series.{reserves}
 use Rattle.table.specs.Steps.{holdsMore}
 use Rattle.table.proofs.holds_more.Statement.{statement}
 use Rattle.table.proofs.holds_more.Tie as tie
 
 returns : tie.Need-returns
 unfolding holdsMore
-returns c = rw (c .if1 .taken)
+returns c =
+    let a = c .before .before .args in
+    sym (ap (λ (passed : Bool). not passed && reserves (a .m1) (a .r) (a .slot)) (c .if1 .taken))
 
 reserves-requires : tie.Need-reserves-requires
 reserves-requires c κs = search needs
 
 returns-2 : tie.Need-returns-2
 unfolding holdsMore
-returns-2 c = rw (c .before .if1 .left) (c .reserves .ensures)
+returns-2 c =
+    let a = c .before .before .before .args in
+    c .reserves .ensures ∙ sym (ap (λ (passed : Bool). not passed && reserves (a .m1) (a .r) (a .slot)) (c .before .if1 .left))
 
 pub holds-more-spec : {M : Type 1} → statement M
 holds-more-spec = tie.close (tie.spec returns reserves-requires returns-2)
