@@ -1,5 +1,5 @@
 // What a C host calls, and nothing else: each call hands its numbers and octets to the crate that does the work, and its answer back as
-// one number. include/gemthatch.h is the manual.
+// one number. include/gemthatch.h is the manual. The state's now is called `time` here, since contracts use that word.
 use codec::Block;
 use codec::Reading;
 use codec::Writing;

@@ -253,17 +253,53 @@ pub fn middling(pair: &mut Pair) -> Verdict {
     seen.enough(256, 20, 20)
 }
 
+/// Every number of records that the paper allows may come up, small ones more
+/// often.
+pub fn of_any_size(pair: &mut Pair) -> Verdict {
+    let mut draw = Draw::from_seed(304);
+    let mut seen = Seen::default();
+    let mut sizes = BTreeSet::new();
+    for _ in 0..400 {
+        let width = draw.below(12);
+        let capacity = 1 + draw.below(1 << width) as usize;
+        let m1 = near::m1(&mut draw);
+        let plot = Plot {
+            capacity,
+            m1,
+            before_end: before_end(&mut draw, m1),
+            reserves: 2,
+            refilled: true,
+            sparse: once_in(&mut draw, 2),
+            steps: 60,
+        };
+        play(pair, &mut draw, &plot, &mut seen)?;
+        sizes.insert(capacity);
+    }
+    let (Some(least), Some(most)) = (sizes.first(), sizes.last()) else {
+        return Err("no history was played".to_string());
+    };
+    if *least > 1 || *most < 1_800 || sizes.len() < 150 {
+        return Err(format!("only {} sizes from {least} to {most}", sizes.len()));
+    }
+    let told = seen.enough(100, 20, 0)?;
+    Ok(format!(
+        "{} sizes from {least} to {most} records; {told}",
+        sizes.len()
+    ))
+}
+
 pub fn large(pair: &mut Pair) -> Verdict {
     let mut draw = Draw::from_seed(303);
     let mut seen = Seen::default();
-    for (m1, before_end, sparse) in [
+    let plots = [
         (60, None, true),
         (120, Some(0), true),
         (4_500, None, false),
         (4_500, Some(4_500), true),
         (15_360, None, true),
         (15_360, Some(100), true),
-    ] {
+    ];
+    for (m1, before_end, sparse) in plots.into_iter().cycle().take(4 * plots.len()) {
         let plot = Plot {
             capacity: 2_048,
             m1,
@@ -275,5 +311,5 @@ pub fn large(pair: &mut Pair) -> Verdict {
         };
         play(pair, &mut draw, &plot, &mut seen)?;
     }
-    seen.enough(4, 10, 0)
+    seen.enough(4, 50, 0)
 }

@@ -45,6 +45,7 @@ pub fn check(report: &mut Report) {
     add("small histories", histories::small);
     add("histories of 64 records", histories::middling);
     add("histories of 2048 records", histories::large);
+    add("histories of any size", histories::of_any_size);
     add("sound tables", searches::tables);
     add("large sound tables", searches::large);
     add("demand 3", demand_3::check);

@@ -168,10 +168,10 @@ pub fn large(pair: &mut Pair) -> Verdict {
     let mut draw = Draw::from_seed(402);
     let mut seen = Seen::default();
     for count in [0, 1, 100, 1_000, 2_047, 2_048] {
-        for _ in 0..5 {
+        for _ in 0..20 {
             let mut channel = near::table(&mut draw, 2_048, count);
             run(pair, &mut draw, &mut channel, 15, &mut seen)?;
         }
     }
-    seen.enough(5)
+    seen.enough(30)
 }
