@@ -1,0 +1,163 @@
+/* What the header says in numbers is what the archive does: both sides of each limit, each refusal by its name, and the channel's state. */
+#include <math.h>
+#include <stdio.h>
+#include <string.h>
+
+#include "gemthatch.h"
+
+static int failed = 0;
+
+static void check(int so, int line)
+{
+    if (!so) {
+        printf("tests/header.c:%d: not so\n", line);
+        failed = 1;
+    }
+}
+
+#define IS(call, number) check((call) == (number), __LINE__)
+#define REFUSES(call, name) check(gemthatch_refusal_of(call) == GEMTHATCH_REFUSED_##name, __LINE__)
+
+static uint8_t memory[GEMTHATCH_MEMORY_MAX + GEMTHATCH_RECORD_OCTETS];
+static uint8_t list[GEMTHATCH_LIST_MAX];
+static gemthatch_channel channel;
+
+static void open_channel(size_t records)
+{
+    IS(gemthatch_channel_open(&channel, memory, records * GEMTHATCH_RECORD_OCTETS, GEMTHATCH_M1_DEFAULT), 0u);
+}
+
+/* A reserve that is accepted but for what is asked of it. */
+static uint32_t reserve(uint32_t station, uint32_t rate, uint32_t superframes, uint32_t bs, uint32_t length, double limit)
+{
+    return gemthatch_channel_reserve(&channel, station, rate, superframes, bs, length, GEMTHATCH_KIND_UNKNOWN, 0.0, 0.0, limit);
+}
+
+/* The largest reservation that is accepted. */
+static uint32_t reserve_largest(double limit)
+{
+    return reserve(GEMTHATCH_STATION_MAX, GEMTHATCH_RATE_MAX, GEMTHATCH_SUPERFRAMES_MAX, GEMTHATCH_BS_MAX, GEMTHATCH_LENGTH_MAX, limit);
+}
+
+/* A search from the last slot on. */
+static uint32_t search_last(uint32_t hi, uint32_t length, uint32_t wanted, size_t octets)
+{
+    return gemthatch_channel_search(&channel, GEMTHATCH_SLOT_MAX, hi, length, wanted, list, octets);
+}
+
+static gemthatch_block block_of(uint32_t d, uint32_t blg, uint32_t roff, uint32_t br, uint32_t bs, int32_t bo, uint32_t bt)
+{
+    gemthatch_block block;
+    block.d = d;
+    block.blg = blg;
+    block.roff = roff;
+    block.br = br;
+    block.bs = bs;
+    block.bo = bo;
+    block.bt = bt;
+    return block;
+}
+
+static void bursts(void)
+{
+    static const uint8_t rates[GEMTHATCH_RATES] = GEMTHATCH_TABLE_1_33;
+    const gemthatch_block block = block_of(GEMTHATCH_STATION_MAX, GEMTHATCH_LENGTH_MAX - 1u, 255u, 13u, GEMTHATCH_BS_MAX, -127, 3u);
+    gemthatch_writing written = gemthatch_write(block);
+    gemthatch_reading read = gemthatch_read(written.octets, sizeof written.octets);
+    IS(sizeof written.octets, GEMTHATCH_BURST_OCTETS);
+    IS(written.refusal, 0u);
+    IS(read.refusal, 0u);
+    IS(memcmp(&read.block, &block, sizeof block), 0);
+    IS(gemthatch_read(written.octets, GEMTHATCH_BURST_OCTETS - 1u).refusal, (uint32_t)GEMTHATCH_REFUSED_SIZE);
+    written.octets[8] = 0;
+    IS(gemthatch_read(written.octets, sizeof written.octets).refusal, (uint32_t)GEMTHATCH_REFUSED_EXTENDED_ID);
+    IS(gemthatch_write(block_of(GEMTHATCH_STATION_MAX + 1u, 0, 2, 0, 2, 0, 0)).refusal, (uint32_t)GEMTHATCH_REFUSED_ADDRESS);
+    IS(gemthatch_write(block_of(0, GEMTHATCH_LENGTH_MAX, 2, 0, 2, 0, 0)).refusal, (uint32_t)GEMTHATCH_REFUSED_FIELD);
+    IS(gemthatch_write(block_of(0, 0, 2, 7, 2, 0, 0)).refusal, (uint32_t)GEMTHATCH_REFUSED_CODE);
+    IS(gemthatch_write(block_of(0, 0, 1, 0, 2, 0, 0)).refusal, (uint32_t)GEMTHATCH_REFUSED_ROFF);
+    IS(gemthatch_write(block_of(0, 0, 2, 0, GEMTHATCH_BS_MIN - 1u, 0, 0)).refusal, (uint32_t)GEMTHATCH_REFUSED_BS);
+    IS(gemthatch_write(block_of(0, 0, 2, 0, GEMTHATCH_BS_MIN, -128, 0)).refusal, (uint32_t)GEMTHATCH_REFUSED_BO);
+    IS(gemthatch_rate(rates, sizeof rates, 13u), GEMTHATCH_RATE_MAX);
+    REFUSES(gemthatch_rate(rates, sizeof rates, 15u), CODE);
+    REFUSES(gemthatch_rate(rates, sizeof rates - 1u, 0u), RATE_LIST);
+}
+
+static void parameters(void)
+{
+    IS(gemthatch_parameter(1u, GEMTHATCH_M1_MIN), 0u);
+    IS(gemthatch_parameter(1u, GEMTHATCH_M1_MAX), 0u);
+    IS(gemthatch_parameter(1u, GEMTHATCH_M1_DEFAULT), 0u);
+    REFUSES(gemthatch_parameter(1u, GEMTHATCH_M1_MIN - 60u), FIGURE);
+    REFUSES(gemthatch_parameter(1u, GEMTHATCH_M1_MAX + 60u), FIGURE);
+    REFUSES(gemthatch_parameter(4u, 0u), PARAMETER);
+}
+
+static void tables(void)
+{
+    const double limit = GEMTHATCH_LIMIT_DEFAULT;
+    REFUSES(gemthatch_channel_open(&channel, memory, sizeof memory, GEMTHATCH_M1_DEFAULT), SIZE);
+    check(channel.m1 == 0u && channel.now == 0u && channel.count == 0u, __LINE__);
+    REFUSES(gemthatch_channel_wipe(&channel, 0u), NOT_SOUND);
+    open_channel(GEMTHATCH_RECORDS_MAX);
+    check(channel.octets == GEMTHATCH_MEMORY_MAX && channel.m1 == GEMTHATCH_M1_DEFAULT, __LINE__);
+    open_channel(2u);
+    REFUSES(reserve(GEMTHATCH_STATION_MAX + 1u, 1u, 1u, GEMTHATCH_BS_MIN, 1u, limit), ADDRESS);
+    REFUSES(reserve(0u, GEMTHATCH_RATE_MAX + 1u, 1u, GEMTHATCH_BS_MIN, 1u, limit), RATE);
+    REFUSES(reserve(0u, 1u, 0u, GEMTHATCH_BS_MIN, 1u, limit), NO_SUPERFRAMES);
+    REFUSES(reserve(0u, 1u, GEMTHATCH_SUPERFRAMES_MAX + 1u, GEMTHATCH_BS_MIN, 1u, limit), FIELD);
+    REFUSES(reserve(0u, 1u, 1u, GEMTHATCH_BS_MIN, GEMTHATCH_LENGTH_MAX + 1u, limit), FIELD);
+    REFUSES(reserve(0u, 1u, 1u, GEMTHATCH_BS_MAX + 1u, 1u, limit), BS);
+    REFUSES(reserve(0u, 1u, 1u, GEMTHATCH_BS_MIN, 1u, nextafter(GEMTHATCH_MILES_MAX, 5000.0)), LIMIT);
+    IS(reserve_largest(GEMTHATCH_MILES_MAX), 0u);
+    REFUSES(reserve_largest(0.0), HELD);
+    IS(reserve(1u, 1u, 1u, GEMTHATCH_BS_MIN, 1u, limit), 0u);
+    REFUSES(reserve(2u, 1u, 1u, GEMTHATCH_BS_MIN, 1u, limit), FULL);
+    IS(channel.count, 2u);
+    IS(gemthatch_channel_clock(&channel, 3u), 1u);
+    check(channel.now == 3u && channel.count == 1u, __LINE__);
+    REFUSES(gemthatch_channel_clock(&channel, 2u), BEHIND);
+    REFUSES(gemthatch_channel_slot_state(&channel, GEMTHATCH_SLOT_MAX + 1u), LATE);
+    IS(gemthatch_channel_slot_state(&channel, GEMTHATCH_BS_MAX), (uint32_t)GEMTHATCH_TAKEN);
+    IS(gemthatch_channel_slot_state(&channel, GEMTHATCH_SLOT_MAX), (uint32_t)GEMTHATCH_FREE);
+    IS(gemthatch_channel_distance(&channel, GEMTHATCH_STATION_MAX, GEMTHATCH_KIND_RANGE, GEMTHATCH_MILES_MAX, NAN, 0.0), 1u);
+    IS(gemthatch_channel_slot_state(&channel, GEMTHATCH_BS_MAX), (uint32_t)GEMTHATCH_REUSABLE);
+    IS(gemthatch_channel_distance(&channel, GEMTHATCH_STATION_MAX, GEMTHATCH_KIND_OFFSET, 0.0, GEMTHATCH_MILES_MAX, 0.0), 1u);
+    IS(gemthatch_channel_slot_state(&channel, GEMTHATCH_BS_MAX), (uint32_t)GEMTHATCH_REUSABLE);
+    IS(gemthatch_channel_distance(&channel, GEMTHATCH_STATION_MAX, GEMTHATCH_KIND_UNKNOWN, 0.0, 0.0, 0.0), 1u);
+    IS(gemthatch_channel_slot_state(&channel, GEMTHATCH_BS_MAX), (uint32_t)GEMTHATCH_TAKEN);
+    IS(gemthatch_channel_wipe(&channel, GEMTHATCH_STATION_MAX), 1u);
+    IS(channel.count, 0u);
+}
+
+static void searches(void)
+{
+    open_channel(1u);
+    IS(gemthatch_channel_search(&channel, 0u, 99u, GEMTHATCH_LENGTH_MAX, GEMTHATCH_WANTED_MAX, list, sizeof list), GEMTHATCH_WANTED_MAX);
+    IS(gemthatch_list_slot(list, GEMTHATCH_WANTED_MAX - 1u), GEMTHATCH_WANTED_MAX - 1u);
+    IS(gemthatch_channel_clock(&channel, GEMTHATCH_SLOT_MAX), 0u);
+    IS(search_last(GEMTHATCH_SLOT_MAX, 1u, 1u, sizeof list), 1u);
+    IS(gemthatch_list_slot(list, 0u), GEMTHATCH_SLOT_MAX);
+    REFUSES(search_last(GEMTHATCH_SLOT_MAX + 1u, 1u, 1u, sizeof list), SEARCH_RANGE);
+    REFUSES(search_last(GEMTHATCH_SLOT_MAX, 0u, 1u, sizeof list), FIELD);
+    REFUSES(search_last(GEMTHATCH_SLOT_MAX, 1u, GEMTHATCH_WANTED_MAX + 1u, sizeof list), WANTED);
+    REFUSES(search_last(GEMTHATCH_SLOT_MAX, 1u, 1u, GEMTHATCH_LIST_SLOT_OCTETS - 1u), SIZE);
+    IS(reserve(1u, 1u, 1u, GEMTHATCH_BS_MIN, GEMTHATCH_LENGTH_MAX, 0.0), 0u);
+    REFUSES(search_last(GEMTHATCH_SLOT_MAX, 3u, 1u, sizeof list), NONE);
+    IS(gemthatch_pick(GEMTHATCH_WANTED_MAX, 17u), 1u);
+    REFUSES(gemthatch_pick(GEMTHATCH_WANTED_MAX + 1u, 17u), WANTED);
+}
+
+int main(void)
+{
+    uint32_t refusal;
+    bursts();
+    parameters();
+    tables();
+    searches();
+    /* Every refusal has a text of its own. */
+    for (refusal = 0; refusal <= 22u; refusal++)
+        check(strcmp(gemthatch_refusal_text(refusal), gemthatch_refusal_text(refusal + 1u)) != 0, __LINE__);
+    IS(gemthatch_refusal_of(GEMTHATCH_REFUSED - 1u), 0u);
+    IS(gemthatch_refusal_of(GEMTHATCH_REFUSED + 22u), (uint32_t)GEMTHATCH_REFUSED_PARAMETER);
+    return failed;
+}
