@@ -1,4 +1,4 @@
--- No refusal is above 22, and no number of an accepted call comes near 2,000,000,000. Assumes nothing.
+-- No refusal is above 22, so each fits behind 2,000,000,000; and what a method returned, as one number. Assumes nothing.
 use Prim.Native.Nat.{ℕ, _%_, _≤_}
 use mathlib.Core.Path.{_≡_, refl, ap}
 use mathlib.Core.Bool.{Bool, true, false, cond, not, false≢true}
