@@ -88,7 +88,7 @@ enum gemthatch_refusal {
     GEMTHATCH_REFUSED_ADDRESS = 8,         /* address 2^27 or more */
     GEMTHATCH_REFUSED_FIELD = 9,           /* blg above 31, bt or superframes above 3, length 0 or above 32 */
     GEMTHATCH_REFUSED_FIGURE = 10,         /* the figure doesn't fit its parameter's row */
-    GEMTHATCH_REFUSED_NOT_SOUND = 11,      /* memory and state are no table that the library left */
+    GEMTHATCH_REFUSED_NOT_SOUND = 11,      /* the table isn't sound, as told at `the table` below */
     GEMTHATCH_REFUSED_BEHIND = 12,         /* clock, or slot asked about, behind now */
     GEMTHATCH_REFUSED_LATE = 13,           /* clock, or slot asked about, above 1,000,000,000 */
     GEMTHATCH_REFUSED_RATE = 14,           /* rate 0 or above 60 */
@@ -226,8 +226,8 @@ GEMTHATCH_MUST_USE uint32_t gemthatch_distance(uint8_t *memory, size_t octets, u
                                                uint32_t kind, double a, double b, double limit);
 
 /*
- * Removes a station's records; the others keep their order, octets behind them are 0. Unless another station's reservation was ever
- * refused because the table was full, memory and state are then what they would be had the station never called.
+ * Removes a station's records; the others keep their order, octets behind them are 0. Unless another station's reservation was refused
+ * because the table was full (17) since the opening, memory and state are then what they would be had the station never called.
  * Next state: m1, now, count less the number returned.
  * Returns how many were removed; 0 is no refusal. Refused, in this order: 11, 8.
  */

@@ -2,7 +2,7 @@
 use Prim.Native.Nat.{ℕ, _+_, _-_, _≤_, zero-le}
 use native.Mathlib.Omega.{arith}
 use mathlib.Core.Path.{_≡_, refl, sym, ap, _∙_}
-use mathlib.Core.Bool.{Bool, true, false, cond, not, false≢true}
+use mathlib.Core.Bool.{Bool, true, false, cond, not, true≢false}
 use mathlib.Core.List.{List, [], _∷_, _++_, map}
 use lib.Dec.{leb, eqb}
 use lib.ListN.{length as len, length-append, length-map}
@@ -16,15 +16,15 @@ use Rattle.distance.specs.Distances.{isFar}
 use Rattle.sound.specs.Sound.{Channel, records, lasts, sound}
 use Rattle.sound.proofs.Sound.{Held, held}
 use Rattle.table.specs.declared.State.{State}
-use Rattle.table.specs.Table.{Call, clock, reserve, distance, wipe, look, asked, bit, of, setFar, changed, reported}
+use Rattle.table.specs.Table.{Call, clock, reserve, distance, wipe, look, isLook, asked, bit, of, setFar, changed, reported}
 use Rattle.table.specs.Memory.{channel, stateOf, read, write, refusal, leaves, says, returned, openRefusal, opened, openLeaves, openReturned}
-use Rattle.table.proofs.Calls.{isLook, refusal-unsound, refused-gives, accepted-gives}
+use Rattle.table.proofs.Calls.{refusal-unsound, refused-gives, accepted-gives}
 use Rattle.table.proofs.Memory.{length-kept}
 use Rattle.search.specs.Search.{searched}
+use Rattle.search.proofs.Answers.{found-fits}
 use Rattle.gemthatch.specs.OverC.{overC, called}
-use Rattle.gemthatch.specs.Claims.{changes, moved, formed, formedByOpen, refusalIn, StateFormed, StateOpened, RefusalTold, ReportedSmall, FoundSmall}
+use Rattle.gemthatch.specs.Claims.{moved, formed, formedByOpen, refusalIn, StateFormed, StateOpened, RefusalTold, ReportedSmall, FoundSmall}
 use Rattle.gemthatch.proofs.Most.{returned-called}
-use Rattle.gemthatch.proofs.Places.{found-fits}
 
 -- ---- overC
 
@@ -57,13 +57,13 @@ accepted-held m c z =
     (λ h. held m h)
     (λ h. let e : 11 ≡ 0 = refusal-unsound m c h ∙ z in absurd (omega arith))
 
-reported-most : (m : Channel) (c : Call) → changes c ≡ true → Held m → reported (read m) c ≤ 2048
+reported-most : (m : Channel) (c : Call) → isLook c ≡ false → Held m → reported (read m) c ≤ 2048
 unfolding read
 reported-most m (clock slot) h k = omega (arith, length-kept m k (λ r. not (lasts (m .m1) slot r)), k .room, k .capacity-most)
 reported-most m (reserve q) h k = zero-le
 reported-most m (distance s d limit) h k = omega (arith, length-kept m k (of s), k .room, k .capacity-most)
 reported-most m (wipe s) h k = omega (arith, length-kept m k (of s), k .room, k .capacity-most)
-reported-most m (look f) h k = absurd (false≢true h)
+reported-most m (look f) h k = absurd (true≢false h)
 
 pub reported-small : ReportedSmall
 unfolding says
@@ -84,7 +84,7 @@ module _ (s : State) (b : List ℕ) where
   then t n = record { m1 = s .m1; now = t; count = n }
 
   -- by what an accepted call reports
-  moved-written : (c : Call) → changes c ≡ true → Held given → moved s c (reported (read given) c) ≡ stateOf (write (changed (read given) c))
+  moved-written : (c : Call) → isLook c ≡ false → Held given → moved s c (reported (read given) c) ≡ stateOf (write (changed (read given) c))
   unfolding read write
   moved-written (clock slot) h k =
       let live = lasts (s .m1) slot in
@@ -101,17 +101,17 @@ module _ (s : State) (b : List ℕ) where
       let others : Rec → Bool = λ r. not (of station r) in
       let e : s .count - len (keep (of station) (records given)) ≡ len (keep others (records given)) = omega (arith, k .counted, length-keep-not (of station) others (λ r. refl) (records given)) in
       ap (then (s .now)) e
-  moved-written (look f) h k = absurd (false≢true h)
+  moved-written (look f) h k = absurd (true≢false h)
 
-  formed-made : (c : Call) → changes c ≡ true → isLook c ≡ false → formed s c (called given c) ≡ returned given c .state
-  formed-made c h n = by-test (eqb (refusal given c) 0) accepted refused
+  formed-made : (c : Call) → isLook c ≡ false → formed s c (called given c) ≡ returned given c .state
+  formed-made c h = by-test (eqb (refusal given c) 0) accepted refused
     where
       accepted : eqb (refusal given c) 0 ≡ true → formed s c (called given c) ≡ returned given c .state
       accepted t =
           let z = eqb-true (refusal given c) 0 t in
           let k = accepted-held given c z in
           let x = reported (read given) c in
-          let g = accepted-gives given c (sym z) n .0 in
+          let g = accepted-gives given c (sym z) h .0 in
           let e : called given c ≡ x = sym (returned-called _ given c g) ∙ overC-accepted x in
           rw (e, lt-leb 2_000_000_000 x (omega (arith, reported-most given c h k)), ← g) (moved-written c h k)
 
@@ -125,10 +125,10 @@ module _ (s : State) (b : List ℕ) where
 
 pub state-formed : StateFormed
 unfolding returned leaves
-state-formed s b (clock slot) = formed-made s b (clock slot) refl refl
-state-formed s b (reserve q) = formed-made s b (reserve q) refl refl
-state-formed s b (distance station d limit) = formed-made s b (distance station d limit) refl refl
-state-formed s b (wipe station) = formed-made s b (wipe station) refl refl
+state-formed s b (clock slot) = formed-made s b (clock slot) refl
+state-formed s b (reserve q) = formed-made s b (reserve q) refl
+state-formed s b (distance station d limit) = formed-made s b (distance station d limit) refl
+state-formed s b (wipe station) = formed-made s b (wipe station) refl
 state-formed s b (look f) = go (leb 2_000_000_000 (called (channel s b) (look f)))
   where
     go : (t : Bool) → cond t s s ≡ s

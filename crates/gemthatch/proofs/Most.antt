@@ -1,7 +1,7 @@
 -- No refusal is above 22, so each fits behind 2,000,000,000; and what a method returned, as one number. Assumes nothing.
 use Prim.Native.Nat.{ℕ, _%_, _≤_}
 use mathlib.Core.Path.{_≡_, refl, ap}
-use mathlib.Core.Bool.{Bool, true, false, cond, not, false≢true}
+use mathlib.Core.Bool.{Bool, true, false, cond, not, true≢false}
 use mathlib.Core.List.{List, [], _∷_}
 use lib.ListN.{getD}
 use Rattle.octets.specs.Lists.{keep, every}
@@ -16,7 +16,7 @@ use Rattle.series.specs.Series.{reserves}
 use Rattle.sound.specs.Sound.{Channel, records, sizeFits, sound}
 use Rattle.table.specs.declared.Slot.{Slot}
 use Rattle.table.specs.declared.Slot.the-variants.{Reusable, Taken, Refused}
-use Rattle.table.specs.Table.{Call, clock, reserve, distance, wipe, look, tests, timeTests}
+use Rattle.table.specs.Table.{Call, clock, reserve, distance, wipe, look, isLook, tests, timeTests}
 use Rattle.table.specs.declared.Answer.{Answer}
 use Rattle.table.specs.Memory.{read, refusal, says, returned, openRefusal}
 use Rattle.table.specs.Slots.{heldFar, stateBy, slotState, slotAnswer, said}
@@ -24,21 +24,20 @@ use Rattle.search.specs.declared.Query.{Query}
 use Rattle.search.specs.declared.Picked.{Picked}
 use Rattle.search.specs.Search as Search
 use Rattle.gemthatch.specs.OverC.{overC, called}
-use Rattle.gemthatch.specs.Claims.{changes}
 
 -- ---- the table
 
-pub says-most : (m : Channel) (c : Call) → changes c ≡ true → says m c .refusal ≤ 22
+pub says-most : (m : Channel) (c : Call) → isLook c ≡ false → says m c .refusal ≤ 22
 unfolding says refusal
 says-most m (clock slot) h = firstOf-most 22 ((11, not (sound m)) ∷ tests (read m) (clock slot)) refl
 says-most m (reserve q) h = firstOf-most 22 ((11, not (sound m)) ∷ tests (read m) (reserve q)) refl
 says-most m (distance s d limit) h = firstOf-most 22 ((11, not (sound m)) ∷ tests (read m) (distance s d limit)) refl
 says-most m (wipe s) h = firstOf-most 22 ((11, not (sound m)) ∷ tests (read m) (wipe s)) refl
-says-most m (look f) h = absurd (false≢true h)
+says-most m (look f) h = absurd (true≢false h)
 
 -- what a method returned
 module _ (a : Answer) (m : Channel) (c : Call) (e : a ≡ returned m c) where
-  pub returned-most : changes c ≡ true → a .refusal ≤ 22
+  pub returned-most : isLook c ≡ false → a .refusal ≤ 22
   unfolding returned
   returned-most h = rw e (says-most m c h)
 

@@ -1,12 +1,12 @@
 -- What is claimed of the answers over C, besides each function's promise. `claims` in src/lib.rt promises all of it.
 use Prim.Native.Nat.{ℕ, _+_, _-_, _<_, _≤_}
 use mathlib.Core.Path.{_≡_}
-use mathlib.Core.Bool.{Bool, true, false, cond}
+use mathlib.Core.Bool.{false, cond}
 use mathlib.Core.List.{List}
 use lib.Dec.{leb}
 use Rattle.sound.specs.Sound.{Channel}
 use Rattle.table.specs.declared.State.{State}
-use Rattle.table.specs.Table.{Call, clock, reserve, distance, wipe, look}
+use Rattle.table.specs.Table.{Call, clock, reserve, distance, wipe, look, isLook}
 use Rattle.table.specs.Memory.{channel, says, returned, openRefusal, openReturned}
 use Rattle.search.specs.declared.Query.{Query}
 use Rattle.search.specs.Search.{searched}
@@ -17,14 +17,6 @@ use Rattle.gemthatch.specs.OverC.{overC, called}
 -- its refusal: 0 below 2,000,000,000
 abbrev pub refusalIn : ℕ → ℕ
 refusalIn x = cond (leb 2_000_000_000 x) (x - 2_000_000_000) 0
-
--- a clock, reserve, distance or wipe
-abbrev pub changes : Call → Bool
-changes (clock slot) = true
-changes (reserve q) = true
-changes (distance station d limit) = true
-changes (wipe station) = true
-changes (look f) = false
 
 -- the state that an accepted call leaves, formed from the number it returned
 abbrev pub moved : State → Call → ℕ → State
@@ -56,9 +48,9 @@ StateOpened = (m1 : ℕ) (b : List ℕ) → formedByOpen m1 (overC (openRefusal 
 abbrev pub RefusalTold : Type 0
 RefusalTold = (refusal number : ℕ) → number < 2_000_000_000 → refusalIn (overC refusal number) ≡ refusal
 
--- a call reports at most the 2,048 records of a table
+-- a clock, reserve, distance or wipe reports at most the 2,048 records of a table
 abbrev pub ReportedSmall : Type 0
-ReportedSmall = (m : Channel) (c : Call) → changes c ≡ true → says m c .number ≤ 2048
+ReportedSmall = (m : Channel) (c : Call) → isLook c ≡ false → says m c .number ≤ 2048
 
 -- a search finds at most 16 starts
 abbrev pub FoundSmall : Type 0

@@ -8,7 +8,7 @@ use Rattle.distance.specs.Distances.{distanceOf}
 use Rattle.sound.specs.Sound.{Channel}
 use Rattle.table.specs.declared.Request.{Request}
 use Rattle.table.specs.Table.{Call}
-use Rattle.table.specs.Memory.{says}
+use Rattle.table.specs.Memory.{channel, says}
 use Rattle.table.specs.Slots.{slotAnswer, said}
 use Rattle.search.specs.declared.Query.{Query}
 use Rattle.search.specs.Search.{found, searched}
@@ -21,7 +21,7 @@ overC refusal number = answer refusal number (λ n. 2_000_000_000 + n)
 
 -- the state as three numbers, and the octets lent with it
 abbrev pub lent : ℕ → ℕ → ℕ → List ℕ → Channel
-lent m1 now count b = record { m1 = m1; now = now; count = count; memory = b }
+lent m1 now count b = channel (record { m1 = m1; now = now; count = count }) b
 
 -- what a reserve asks for, its distance as a kind and two numbers
 abbrev pub request : ℕ → ℕ → ℕ → ℕ → ℕ → ℕ → Float → Float → Float → Request

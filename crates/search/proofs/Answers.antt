@@ -1,11 +1,11 @@
 -- The list and the number found, the search as a look, and pick. Assumes nothing.
-use Prim.Native.Nat.{ℕ, _-_, _<_, _≤_}
+use Prim.Native.Nat.{ℕ, _-_, _<_, _≤_, zero-le}
 use native.Mathlib.Nat.{mod-lt}
 use native.Mathlib.Omega.{arith}
 use mathlib.Core.Path.{_≡_, refl, sym, _∙_}
-use mathlib.Core.Bool.{not}
+use mathlib.Core.Bool.{Bool, not}
 use mathlib.Core.List.{List, [], _∷_}
-use borrow.Author.Tests.{eqb-false, ne-eqb, le-ltb}
+use borrow.Author.Tests.{ltb-false, eqb-false, ne-eqb, le-ltb}
 use lib.ListN.{length as len, replicate}
 use lib.Seq.{drop-append-seam}
 use Rattle.octets.specs.Refusals.{firstOf, answer, outside}
@@ -25,6 +25,20 @@ none-refused : (n : ℕ) (xs : List ℕ) → (n ≡ 0 → ⊥) → len (answer n
 unfolding answer
 none-refused n xs h = rw (ne-eqb n 0 h)
 
+-- there are no more than the places, and no more than 16
+pub found-fits : (m : Channel) (q : Query) (places : ℕ) → (len (found m q places) ≤ places) × (len (found m q places) ≤ 16)
+unfolding found refusal
+found-fits m q places =
+    let ts : List (ℕ × Bool) = (11, not (sound m)) ∷ tests (read m) q places in
+    answer-elim (listed (statesOf (read m)) q) (λ _. []) (λ l. (len l ≤ places) × (len l ≤ 16)) (firstOf ts)
+    (λ z.
+    let t = firstOf-zero ts refl z in
+    let few = outside-false 1 16 (q .wanted) (t .1 .1 .1 .0) .1 in
+    let room = ltb-false places (q .wanted) (t .1 .1 .1 .1 .0) in
+    let most = length-listed (statesOf (read m)) q in
+    (omega arith, omega arith))
+    (λ _. (zero-le, zero-le))
+
 module _ (m : Channel) (q : Query) (places : ℕ) (z : refusal m q places ≡ 0) where
   abbrev answered : List ℕ
   answered = listed (statesOf (read m)) q
@@ -41,7 +55,7 @@ module _ (m : Channel) (q : Query) (places : ℕ) (z : refusal m q places ≡ 0)
       let t = firstOf-zero ((11, not (sound m)) ∷ tests (read m) q places) refl z in
       let wanted = outside-false 1 16 (q .wanted) (t .1 .1 .1 .0) in
       let some = eqb-false (len answered) 0 (sym (listed-none (statesOf (read m)) q (wanted .0)) ∙ t .1 .1 .1 .1 .1 .0) in
-      rw found-listed (omega arith, omega (arith, length-listed (statesOf (read m)) q))
+      (rw found-listed (omega arith), found-fits m q places .1)
 
 pub some-found : SomeFound
 unfolding searched

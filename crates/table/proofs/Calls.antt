@@ -16,17 +16,9 @@ use Rattle.record.specs.declared.Rec.{Rec}
 use Rattle.sound.specs.Sound.{Channel, records, sound}
 use Rattle.sound.proofs.Sound.{Held, held}
 use Rattle.table.specs.declared.Request.{Request}
-use Rattle.table.specs.Table.{Call, clock, reserve, distance, wipe, look, asked, requestTests, placeTests, tests, changed, reported}
+use Rattle.table.specs.Table.{Call, clock, reserve, distance, wipe, look, asked, requestTests, placeTests, tests, changed, reported, isLook}
 use Rattle.table.specs.Memory.{stateOf, read, packed, write, refusal, leaves, says, returned}
 use Rattle.table.specs.Steps.{refused, swept, added, addedMemory}
-
--- a slot state or a search, which leave all as it was
-abbrev pub isLook : Call → Bool
-isLook (clock slot) = false
-isLook (reserve q) = false
-isLook (distance s d limit) = false
-isLook (wipe s) = false
-isLook (look f) = true
 
 -- ---- which refusal
 

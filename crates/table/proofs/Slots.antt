@@ -1,12 +1,15 @@
 -- A slot's state worked out record after record. Assumes nothing.
+use Prim.Native.Nat.{ℕ}
 use mathlib.Core.Path.{_≡_, refl}
 use mathlib.Core.Bool.{Bool, true, false, cond, not, _&&_, _||_, true≢false, false≢true}
 use mathlib.Core.List.{List, [], _∷_}
 use Rattle.octets.specs.Lists.{keep, every}
 use Rattle.record.specs.declared.Rec.{Rec}
+use Rattle.series.specs.Series.{reserves}
 use Rattle.table.specs.declared.Slot.{Slot}
 use Rattle.table.specs.declared.Slot.the-variants.{Free, Reusable, Taken}
 use Rattle.table.specs.Slots.{heldFar, stateBy}
+use Rattle.table.specs.Steps.{holdsMore}
 
 -- the state where `any` says that far records reserve the slot already, and hs are the holders still to come
 unfoldable pub judged : Bool → List Rec → Slot
@@ -24,17 +27,17 @@ unfolding judged stateBy
 judged-end true = refl
 judged-end false = refl
 
-module _ (p : Rec → Bool) (any : Bool) (r : Rec) (rs : List Rec) where
-  -- whether the record passes and is asked: a far one is not where `any` is true
-  abbrev asked : Bool
-  asked = not (any && heldFar r) && p r
+module _ (m1 slot : ℕ) (any : Bool) (r : Rec) (rs : List Rec) where
+  -- the records that reserve the slot
+  abbrev holders : List Rec → List Rec
+  holders = keep (λ x. reserves m1 x slot)
 
   -- a near holder settles it
-  pub judged-near : (asked && not (heldFar r)) ≡ true → judged any (keep p (r ∷ rs)) ≡ Taken
-  unfolding judged stateBy
-  judged-near h = go any (p r) (heldFar r) refl h
+  pub judged-near : (holdsMore m1 slot any r && not (heldFar r)) ≡ true → judged any (holders (r ∷ rs)) ≡ Taken
+  unfolding judged stateBy holdsMore
+  judged-near h = go any (reserves m1 r slot) (heldFar r) refl h
     where
-      go : (any a b : Bool) → heldFar r ≡ b → ((not (any && b) && a) && not b) ≡ true → judged any (cond a (r ∷ keep p rs) (keep p rs)) ≡ Taken
+      go : (any a b : Bool) → heldFar r ≡ b → ((not (any && b) && a) && not b) ≡ true → judged any (cond a (r ∷ holders rs) (holders rs)) ≡ Taken
       go true true false e h = rw e
       go false true false e h = rw e
       go true true true e h = absurd (false≢true h)
@@ -44,12 +47,12 @@ module _ (p : Rec → Bool) (any : Bool) (r : Rec) (rs : List Rec) where
       go false false b e h = absurd (false≢true h)
 
   -- any other record is a far holder or none
-  pub judged-next : (asked && not (heldFar r)) ≡ false → judged any (keep p (r ∷ rs)) ≡ judged (any || asked) (keep p rs)
-  unfolding judged stateBy
-  judged-next h = go any (p r) (heldFar r) refl h
+  pub judged-next : (holdsMore m1 slot any r && not (heldFar r)) ≡ false → judged any (holders (r ∷ rs)) ≡ judged (any || holdsMore m1 slot any r) (holders rs)
+  unfolding judged stateBy holdsMore
+  judged-next h = go any (reserves m1 r slot) (heldFar r) refl h
     where
       go : (any a b : Bool) → heldFar r ≡ b → ((not (any && b) && a) && not b) ≡ false
-          → judged any (cond a (r ∷ keep p rs) (keep p rs)) ≡ judged (any || (not (any && b) && a)) (keep p rs)
+          → judged any (cond a (r ∷ holders rs) (holders rs)) ≡ judged (any || (not (any && b) && a)) (holders rs)
       go true true true e h = rw e
       go false true true e h = rw e
       go true true false e h = absurd (true≢false h)

@@ -1,6 +1,6 @@
 -- Document 01's table over records: of each call what it is refused for, what it changes, what it reports.
 use Prim.Native.Nat.{ℕ, _+_, _^_}
-use mathlib.Core.Bool.{Bool, cond, not, _&&_, _||_}
+use mathlib.Core.Bool.{Bool, true, false, cond, not, _&&_, _||_}
 use mathlib.Core.List.{List, [], _∷_, _++_, map}
 use lib.Dec.{leb, ltb, eqb}
 use lib.Ieee.{Float}
@@ -32,6 +32,14 @@ pub data Call : Type 0 where
   distance : ℕ → Distance → Float → Call
   wipe : ℕ → Call
   look : (Table → Said) → Call
+
+-- a slot state or a search, which leave all as it was
+abbrev pub isLook : Call → Bool
+isLook (clock slot) = false
+isLook (reserve q) = false
+isLook (distance s d limit) = false
+isLook (wipe s) = false
+isLook (look f) = true
 
 -- ---- what the calls do with records
 

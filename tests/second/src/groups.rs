@@ -6,6 +6,17 @@ use crate::paper::codec::{self, Fields, GROUP};
 /// 00 00 01 20 02 03 05 FE 12
 pub const P1: [u8; GROUP] = [0x00, 0x00, 0x01, 0x20, 0x02, 0x03, 0x05, 0xFE, 0x12];
 
+/// What they carry.
+pub const P1_FIELDS: Fields = Fields {
+    d: 1,
+    blg: 4,
+    roff: 2,
+    br: 3,
+    bs: 5,
+    bo: -2,
+    bt: 2,
+};
+
 /// Codes that have a meaning.
 const CODES: [u32; 13] = [0, 1, 2, 3, 4, 5, 6, 8, 9, 10, 11, 12, 13];
 

@@ -297,8 +297,8 @@ pub fn open(memory: &mut [u8], m1: u32) -> Answer {
     Ok(0)
 }
 
-#[inline(never)]
-pub fn clock(memory: &mut [u8], state: State, slot: u32) -> Answer {
+/// What clock and slot state refuse.
+fn check_slot(memory: &[u8], state: State, slot: u32) -> Result<(), u32> {
     if !is_sound(memory, state) {
         return Err(11);
     }
@@ -308,6 +308,12 @@ pub fn clock(memory: &mut [u8], state: State, slot: u32) -> Answer {
     if slot > LAST_SLOT {
         return Err(13);
     }
+    Ok(())
+}
+
+#[inline(never)]
+pub fn clock(memory: &mut [u8], state: State, slot: u32) -> Answer {
+    check_slot(memory, state, slot)?;
     Ok(retain(memory, state, |record| {
         record.last(state.m1) >= slot
     }))
@@ -446,15 +452,7 @@ fn slot_state(
     slot: u32,
     reserves: impl Fn(&Record) -> bool,
 ) -> Answer {
-    if !is_sound(memory, state) {
-        return Err(11);
-    }
-    if slot < state.now {
-        return Err(12);
-    }
-    if slot > LAST_SLOT {
-        return Err(13);
-    }
+    check_slot(memory, state, slot)?;
     let mut found = FREE;
     for record in records(memory, state) {
         if reserves(&record) {

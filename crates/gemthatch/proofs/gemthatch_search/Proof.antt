@@ -11,9 +11,9 @@ use Rattle.sound.specs.Sound.{Channel}
 use Rattle.search.specs.declared.Query.{Query}
 use Rattle.search.specs.declared.Found.{Found}
 use Rattle.search.specs.Search.{found, searched}
+use Rattle.search.proofs.Answers.{found-fits}
 use Rattle.gemthatch.specs.OverC.{overC, lent, query, searchNumber, inOctets, searchList}
 use Rattle.gemthatch.proofs.Most.{search-most}
-use Rattle.gemthatch.proofs.Places.{found-fits}
 use Rattle.gemthatch.proofs.gemthatch_search.Statement.{statement}
 use Rattle.gemthatch.proofs.gemthatch_search.Tie as tie
 

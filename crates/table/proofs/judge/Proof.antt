@@ -9,7 +9,6 @@ use Rattle.series.specs.Series.{reserves}
 use Rattle.sound.specs.Sound.{records}
 use Rattle.table.specs.Memory.{channel}
 use Rattle.table.specs.Slots.{slotState}
-use Rattle.table.specs.Steps.{holdsMore}
 use Rattle.record.proofs.ToCome.{toCome, toCome-next, toCome-none}
 use Rattle.table.proofs.Slots.{judged, judged-start, judged-end, judged-near, judged-next}
 use Rattle.table.proofs.judge.Statement.{statement}
@@ -39,13 +38,12 @@ holds-more-requires : tie.Need-holds-more-requires Inv-loop μ-loop
 holds-more-requires c κs = search needs
 
 returns : tie.Need-returns Inv-loop μ-loop
-unfolding holdsMore
 returns c =
     let h = c .before .before .before .before .before in
     let a = h .before .before .before .before .args in
     let n = h .before .held-count in
     let load = c .before .before .before .load in
-    let near = judged-near (λ r. reserves (a .s .m1) r (a .slot)) (h .loop .any) (load .result) (toCome (h .loop .i + 1) (n .result) (now (a .mem))) in
+    let near = judged-near (a .s .m1) (a .slot) (h .loop .any) (load .result) (toCome (h .loop .i + 1) (n .result) (now (a .mem))) in
     let next = toCome-next (h .loop .i) (n .result) (now (a .mem)) (c .before .before .before .before .loop-test .taken) (n .ensures .1) in
     sym (h .loop .inv ∙ rw (next, ← load .ensures) (near (rw (← c .before .before .holds-more .ensures) (c .if1 .taken))))
 
@@ -56,14 +54,13 @@ loop-less : tie.Need-loop-less Inv-loop μ-loop
 loop-less c = omega arith
 
 loop-again : tie.Need-loop-again Inv-loop μ-loop
-unfolding holdsMore
 loop-again c =
     let h = c .before .before .before .before .before in
     let a = h .before .before .before .before .args in
     let n = h .before .held-count in
     let load = c .before .before .before .load in
     let holds = c .before .before .holds-more .ensures in
-    let other = judged-next (λ r. reserves (a .s .m1) r (a .slot)) (h .loop .any) (load .result) (toCome (h .loop .i + 1) (n .result) (now (a .mem))) in
+    let other = judged-next (a .s .m1) (a .slot) (h .loop .any) (load .result) (toCome (h .loop .i + 1) (n .result) (now (a .mem))) in
     let next = toCome-next (h .loop .i) (n .result) (now (a .mem)) (c .before .before .before .before .loop-test .taken) (n .ensures .1) in
     h .loop .inv ∙ rw (next, ← load .ensures, holds) (other (rw (← holds) (c .if1 .left)))
 

@@ -5,7 +5,7 @@ use super::expect;
 use super::near::FAR;
 use super::pair::{Channel, Pair};
 use crate::archive::Lent;
-use crate::groups::P1;
+use crate::groups::{P1, P1_FIELDS};
 use crate::paper::codec::{Fields, TABLE_1_33};
 use crate::paper::distance::UNKNOWN;
 use crate::paper::search::Wish;
@@ -95,15 +95,7 @@ pub fn table(record: Record, state: State, capacity: usize) -> Channel {
 }
 
 fn codec(pair: &mut Pair, tried: &mut usize) -> Result<(), String> {
-    let base = Fields {
-        d: 1,
-        blg: 4,
-        roff: 2,
-        br: 3,
-        bs: 5,
-        bo: -2,
-        bt: 2,
-    };
+    let base = P1_FIELDS;
     let mut write = |fields: Fields| pair.write(&fields).map(|answer| answer.map(|_| 0));
     each(tried, "write, d", STATION, |d| write(Fields { d, ..base }))?;
     let sides: Sides = &[(0, &[0, 31]), (9, &[32, 256, MAX])];

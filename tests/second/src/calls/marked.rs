@@ -5,7 +5,7 @@ use super::expect;
 use super::near::FAR;
 use super::pair::{Channel, Pair};
 use crate::archive::Lent;
-use crate::groups::P1;
+use crate::groups::{P1, P1_FIELDS};
 use crate::paper::codec::Fields;
 use crate::paper::distance::{Distance, UNKNOWN};
 use crate::paper::search::Wish;
@@ -65,15 +65,7 @@ fn codec_cases(pair: &mut Pair) -> Result<(), String> {
         group[place - 1] = octet;
         group
     };
-    let p1 = Fields {
-        d: 1,
-        blg: 4,
-        roff: 2,
-        br: 3,
-        bs: 5,
-        bo: -2,
-        bt: 2,
-    };
+    let p1 = P1_FIELDS;
     let p2 = Fields {
         d: 134_217_727,
         blg: 31,
