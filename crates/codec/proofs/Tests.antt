@@ -31,6 +31,7 @@ module _ (s : List ℕ) where
   unfolding readTests
   read-fields l h = simp (eq-eqb _ _ l, eq-eqb _ _ h)
 
+-- which of 3, 4, 5, 6 the fields call for
 module _ (b : Block) where
   pub field-3 : badCode (b .br) ≡ true → 3 ≡ firstOf (fieldTests b)
   unfolding fieldTests
