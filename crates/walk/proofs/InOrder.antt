@@ -1,0 +1,75 @@
+-- A walk hands out the records of a sound table, in order, and then no more; and nothing of any other. Assumes nothing.
+use Prim.Native.Nat.{ℕ, zero, suc, _+_}
+use native.Mathlib.Nat.{zero-add, suc-add}
+use mathlib.Core.Path.{_≡_, refl, sym, ap}
+use mathlib.Core.Bool.{true, false}
+use mathlib.Core.List.{List, [], _∷_, _++_}
+use lib.ListN.{length as len, replicate}
+use lib.Seq.{drop-nil}
+use denote.Ref.{RefT, now}
+use Rattle.octets.specs.Refusals.{answer}
+use Rattle.octets.proofs.Refusals.{by-test}
+use Rattle.record.specs.declared.Rec.{Rec}
+use Rattle.sound.specs.Sound.{records, sound}
+use Rattle.table.specs.declared.State.{State}
+use Rattle.table.specs.Memory.{channel}
+use Rattle.walk.specs.declared.View.{View}
+use Rattle.walk.specs.declared.Answer.{Answer}
+use Rattle.walk.specs.declared.Handed.the-variants.{NoMore}
+use Rattle.walk.specs.Walk.{begun, ahead, reached, placed, stepped, recordAt}
+use Rattle.walk.specs.Claims.{handedOut, each, AllInOrder, NothingUnsound, RecordWalked}
+use Rattle.walk.proofs.Ahead.{started-sound, started-unsound, stepped-one, stepped-none}
+
+-- with none ahead a view says "no more" for ever
+handed-none : (n : ℕ) (v : View) → ahead v ≡ [] → handedOut n v ≡ replicate n NoMore
+handed-none zero v e = refl
+handed-none (suc n) v e =
+    let s = stepped-none v e in
+    rw (s .0, handed-none n (stepped v .view) (s .1))
+
+-- a view hands out the records ahead of it, and then no more
+handed-ahead : (rs : List Rec) (n : ℕ) (v : View) → ahead v ≡ rs → handedOut (len rs + n) v ≡ each rs ++ replicate n NoMore
+handed-ahead [] n v e = rw zero-add (handed-none n v e)
+handed-ahead (r ∷ rs) n v e =
+    let s = stepped-one v e in
+    rw (suc-add, s .0, handed-ahead rs n (stepped v .view) (s .1))
+
+module _ (s : State) (memory : RefT (List ℕ)) where
+  -- all records of a sound table are ahead of the view that a walk begins with
+  ahead-sound : sound (channel s (now memory)) ≡ true → ahead (begun s memory .view) ≡ records (channel s (now memory))
+  unfolding begun ahead records
+  ahead-sound h = rw (started-sound (channel s (now memory)) h)
+
+  -- and none of any other's
+  ahead-unsound : sound (channel s (now memory)) ≡ false → ahead (begun s memory .view) ≡ []
+  unfolding begun ahead
+  ahead-unsound h = rw (started-unsound (channel s (now memory)) h)
+
+  -- what a walk hands out once it stands at a place, beside its refusal
+  abbrev pub walked : ℕ → Answer
+  walked i = record { refusal = begun s memory .refusal; handed = stepped (placed (begun s memory .view) i) .handed }
+
+  -- that is what record_at gives
+  pub recordAt-walked : (i : ℕ) → walked i ≡ recordAt (channel s (now memory)) i
+  unfolding begun ahead reached placed stepped recordAt records answer
+  recordAt-walked i =
+      by-test (sound (channel s (now memory)))
+      (λ h. rw (started-sound (channel s (now memory)) h, h))
+      (λ h. rw (started-unsound (channel s (now memory)) h, h, drop-nil i))
+
+-- ---- the claims
+
+pub all-in-order : AllInOrder
+unfolding begun
+all-in-order s memory n h =
+    let m = channel s (now memory) in
+    (rw (started-sound m h), handed-ahead (records m) n (begun s memory .view) (ahead-sound s memory h))
+
+pub nothing-unsound : NothingUnsound
+unfolding begun
+nothing-unsound s memory n h =
+    let m = channel s (now memory) in
+    (rw (started-unsound m h), handed-none n (begun s memory .view) (ahead-unsound s memory h))
+
+pub record-walked : RecordWalked
+record-walked s memory i = ap (λ (a : Answer). a .handed) (sym (recordAt-walked s memory i))
