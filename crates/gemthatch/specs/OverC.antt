@@ -5,13 +5,18 @@ use lib.Ieee.{Float}
 use Rattle.octets.specs.Octets.{little, holdsOnly}
 use Rattle.octets.specs.Refusals.{answer}
 use Rattle.distance.specs.Distances.{distanceOf}
+use Rattle.record.specs.Record.{blank}
 use Rattle.sound.specs.Sound.{Channel}
 use Rattle.table.specs.declared.Request.{Request}
 use Rattle.table.specs.Table.{Call}
 use Rattle.table.specs.Memory.{channel, says}
 use Rattle.table.specs.Slots.{slotAnswer, said}
+use Rattle.walk.specs.declared.Handed.{Handed}
+use Rattle.walk.specs.declared.Handed.the-variants.{One, NoMore}
+use Rattle.walk.specs.Walk.{recordAt}
 use Rattle.search.specs.declared.Query.{Query}
 use Rattle.search.specs.Search.{found, searched}
+use Rattle.gemthatch.specs.declared.Place.{Place}
 
 -- the number reported, the slot's state or the number found; refused, 2,000,000,000 plus the refusal's number
 unfoldable pub overC : ℕ → ℕ → ℕ
@@ -64,3 +69,14 @@ inOctets (n ∷ ns) = little 4 n ++ inOctets ns
 -- the list afterwards: the starts found, and all the rest is 0
 unfoldable pub searchList : Channel → Query → ℕ → List ℕ
 searchList m q octets = holdsOnly octets (inOctets (found m q (octets / 4)))
+
+-- ---- the walk
+
+-- what is handed out: how many records, and the record; where there is no more, all 0
+abbrev pub place : ℕ → Handed → Place
+place refusal (One r) = record { refusal = refusal; handed = 1; rec = r }
+place refusal NoMore = record { refusal = refusal; handed = 0; rec = blank }
+
+-- record i of a table, or no more
+unfoldable pub placeAt : Channel → ℕ → Place
+placeAt m i = place (recordAt m i .refusal) (recordAt m i .handed)

@@ -3,11 +3,14 @@
 use codec::Block;
 use codec::Reading;
 use codec::Writing;
+use record::Rec;
 use search::Found;
 use search::Query;
 use table::Request;
 use table::Slot;
 use table::State;
+use tally::Tally;
+use walk::Handed;
 ghost use mathlib.Core.Path.{_≡_};
 ghost use mathlib.Core.List.{[], _++_};
 ghost use Prim.Native.Nat.{_+_, _*_, _≤_};
@@ -17,12 +20,21 @@ ghost use Rattle.octets.specs.Refusals.{firstOf};
 ghost use Rattle.codec.specs.NineOctets.{reading, writing};
 ghost use Rattle.codec.specs.Rates.{rateFound};
 ghost use Rattle.codec.specs.Parameters.{parameterTests};
+ghost use Rattle.tally.specs.Calls.{counted};
 ghost use Rattle.distance.specs.Distances.{distanceOf};
 ghost use Rattle.table.specs.Table.{clock, reserve, distance, wipe};
 ghost use Rattle.table.specs.Memory.{channel, leaves, openRefusal, openLeaves};
 ghost use Rattle.search.specs.Search.{found, searched, picked};
-ghost use Rattle.gemthatch.specs.OverC.{overC, lent, request, query, called, slotNumber, searchNumber, inOctets, searchList};
+ghost use Rattle.gemthatch.specs.OverC.{overC, lent, request, query, called, slotNumber, searchNumber, inOctets, searchList, placeAt};
 ghost use Rattle.gemthatch.specs.Claims.{Claims};
+
+// What a walk hands out at a place: the bare refusal, how many records (1, or 0 for no more), and the record, all 0 where there is none.
+#[repr(C)]
+pub struct Place {
+    pub refusal: u32,
+    pub handed: u32,
+    pub rec: Rec,
+}
 
 // ---- answers and lists as C has them
 
@@ -306,6 +318,56 @@ pub extern "C" fn gemthatch_pick(n: u32, r: u32) -> u32
 {
     let p = search::pick(n, r);
     over_c(p.refusal, p.place)
+}
+
+// ---- the walk and the tally
+
+// Record i of a table, or no more. Refused 11.
+#[no_mangle]
+pub extern "C" fn gemthatch_record_at(
+    memory: &[u8],
+    m1: u32,
+    time: u32,
+    count: u32,
+    i: u32,
+) -> Place
+    ensures { λ r. ⌜ r ≡ placeAt (lent m1 time count (now (memory .entry))) i ⌝ }
+{
+    let s = State {
+        m1,
+        now: time,
+        count,
+    };
+    let a = walk::record_at(s, memory, i);
+    let refusal = a.refusal;
+    let handed = a.handed;
+    match handed {
+        Handed::One(r) => Place {
+            refusal,
+            handed: 1,
+            rec: r,
+        },
+        Handed::NoMore => Place {
+            refusal,
+            handed: 0,
+            rec: Rec {
+                station: 0,
+                first: 0,
+                rate: 0,
+                superframes: 0,
+                length: 0,
+                far: 0,
+            },
+        },
+    }
+}
+
+// Counts a call by its bare refusal number, 0 being accepted.
+#[no_mangle]
+pub extern "C" fn gemthatch_count(tally: &mut Tally, refusal: u32)
+    ensures { λ _. ⌜ now (tally .exit) ≡ counted (now (tally .entry)) refusal ⌝ }
+{
+    tally::count(tally, refusal);
 }
 
 // What this crate claims over its promises.

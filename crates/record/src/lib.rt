@@ -10,6 +10,7 @@ ghost use Rattle.record.specs.Claims.{Claims};
 const SIZE: usize = 12;
 
 // A record of the table.
+#[repr(C)]
 pub struct Rec {
     pub station: u32,
     pub first: u32,
