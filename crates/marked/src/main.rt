@@ -92,10 +92,10 @@ fn put_readings() {
 const LIMIT: f64 = 150.0;
 
 // The table that holds what is asked for at a slot, alone.
-fn reserve_alone(mem: &mut [u8], m1: u32, slot: u32, q: Request) -> State {
-    let opened = State::open(mem, m1).state;
-    let clocked = opened.clock(mem, slot).state;
-    clocked.reserve(mem, q).state
+fn reserve_alone(memory: &mut [u8], m1: u32, slot: u32, q: Request) -> State {
+    let opened = State::open(memory, m1).state;
+    let clocked = opened.clock(memory, slot).state;
+    clocked.reserve(memory, q).state
 }
 
 // What a station asks for T.
@@ -111,28 +111,28 @@ fn request_t(station: u32, distance: Distance) -> Request {
     }
 }
 
-fn reserve_t(mem: &mut [u8], distance: Distance) -> State {
-    reserve_alone(mem, 4500, 100, request_t(1, distance))
+fn reserve_t(memory: &mut [u8], distance: Distance) -> State {
+    reserve_alone(memory, 4500, 100, request_t(1, distance))
 }
 
-fn put_last_slot(s: State, mem: &[u8]) {
+fn put_last_slot(s: State, memory: &[u8]) {
     put(b"P5");
-    put_number(series::last_slot(record::load(mem, 0), s.m1));
+    put_number(series::last_slot(record::load(memory, 0), s.m1));
     put(b"\n");
 }
 
-fn put_slots(s: State, mem: &[u8]) {
+fn put_slots(s: State, memory: &[u8]) {
     put(b"P6");
-    put_slot(table::slot_state(s, mem, 104));
-    put_slot(table::slot_state(s, mem, 110));
-    put_slot(table::slot_state(s, mem, 105));
-    put_slot(table::slot_state(s, mem, 109));
+    put_slot(table::slot_state(s, memory, 104));
+    put_slot(table::slot_state(s, memory, 110));
+    put_slot(table::slot_state(s, memory, 105));
+    put_slot(table::slot_state(s, memory, 109));
     put(b"\n");
 }
 
 // Whether T is there after a clock, which is made on a copy of its table.
-fn put_kept(s: State, mem: [u8; 12], slot: u32) {
-    let mut left = mem;
+fn put_kept(s: State, memory: [u8; 12], slot: u32) {
+    let mut left = memory;
     if s.clock(&mut left, slot).state.count == 1 {
         put(b" kept");
     } else {
@@ -140,15 +140,15 @@ fn put_kept(s: State, mem: [u8; 12], slot: u32) {
     }
 }
 
-fn put_clocks(s: State, mem: [u8; 12]) {
+fn put_clocks(s: State, memory: [u8; 12]) {
     put(b"P7");
-    put_kept(s, mem, 7609);
-    put_kept(s, mem, 7610);
+    put_kept(s, memory, 7609);
+    put_kept(s, memory, 7610);
     put(b"\n");
 }
 
 // What a search for three blocks of two slots gives. A refused one finds none.
-fn put_search(name: &[u8], s: State, mem: &[u8], lo: u32, hi: u32) {
+fn put_search(name: &[u8], s: State, memory: &[u8], lo: u32, hi: u32) {
     let q = Query {
         lo,
         hi,
@@ -156,7 +156,7 @@ fn put_search(name: &[u8], s: State, mem: &[u8], lo: u32, hi: u32) {
         wanted: 3,
     };
     let mut list = [0u32; 3];
-    let found = search::search(s, mem, q, &mut list);
+    let found = search::search(s, memory, q, &mut list);
     let n = found.number as usize;
     put(name);
     if found.refusal != 0 {
@@ -218,21 +218,21 @@ fn request_blocks(rate: u32, bs: u32, length: u32) -> Request {
     }
 }
 
-fn is_held(s: State, mem: &[u8], slot: u32) -> bool {
-    match table::slot_state(s, mem, slot) {
+fn is_held(s: State, memory: &[u8], slot: u32) -> bool {
+    match table::slot_state(s, memory, slot) {
         Slot::Free => false,
         _ => true,
     }
 }
 
 // Where the runs of held slots start. How many slots are held.
-fn put_blocks(s: State, mem: &[u8], from: u32, to: u32) -> u32 {
+fn put_blocks(s: State, memory: &[u8], from: u32, to: u32) -> u32 {
     put(b" blocks at");
     let mut was_held = false;
     let mut n = 0;
     let mut slot = from;
     while slot < to {
-        let held = is_held(s, mem, slot);
+        let held = is_held(s, memory, slot);
         if held & !was_held {
             put_number(slot as u64);
         }
@@ -247,32 +247,32 @@ fn put_blocks(s: State, mem: &[u8], from: u32, to: u32) -> u32 {
 
 // Where M1 is no multiple of the rate R, j*M1/R differs from j*(M1/R).
 fn put_spacing(name: &[u8], m1: u32, rate: u32) {
-    let mut mem = [0u8; 12];
-    let s = reserve_alone(&mut mem, m1, 0, request_blocks(rate, 2, 1));
+    let mut memory = [0u8; 12];
+    let s = reserve_alone(&mut memory, m1, 0, request_blocks(rate, 2, 1));
     put(name);
-    put_blocks(s, &mem, 0, m1);
+    put_blocks(s, &memory, 0, m1);
     put(b"\n");
 }
 
 // One far record is not enough for a slot that a near one also holds.
 fn put_near_and_far() {
-    let mut mem = [0u8; 24];
-    let near = reserve_t(&mut mem, Distance::Unknown);
-    let both = near.reserve(&mut mem, request_t(2, Distance::Range(LIMIT)))
+    let mut memory = [0u8; 24];
+    let near = reserve_t(&mut memory, Distance::Unknown);
+    let both = near.reserve(&mut memory, request_t(2, Distance::Range(LIMIT)))
         .state;
     put(b"near and far on one slot:");
-    put_slot(table::slot_state(both, &mem, 105));
-    let far = both.wipe(&mut mem, 1).state;
+    put_slot(table::slot_state(both, &memory, 105));
+    let far = both.wipe(&mut memory, 1).state;
     put(b", far alone:");
-    put_slot(table::slot_state(far, &mem, 105));
+    put_slot(table::slot_state(far, &memory, 105));
     put(b"\n");
 }
 
 fn put_example() {
-    let mut mem = [0u8; 12];
-    let s = reserve_alone(&mut mem, 4500, 90, request_blocks(3, 10, 10));
+    let mut memory = [0u8; 12];
+    let s = reserve_alone(&mut memory, 4500, 90, request_blocks(3, 10, 10));
     put(b"000's three blocks of ten slots:");
-    let held = put_blocks(s, &mem, 90, 4590);
+    let held = put_blocks(s, &memory, 90, 4590);
     put(b", slots held:");
     put_number(held as u64);
     put(b"\n");

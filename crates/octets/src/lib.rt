@@ -35,25 +35,25 @@ pub fn split(x: u32) -> [u8; 4]
 }
 
 // Whether every octet from `at` on is 0. It looks at all of them: without an early way out the loop is vectorised.
-pub fn zero_from(mem: &[u8], at: usize) -> bool
-    ensures { λ r. ⌜ r ≡ zeros (drop at (now (mem .entry))) ⌝ }
+pub fn zero_from(memory: &[u8], at: usize) -> bool
+    ensures { λ r. ⌜ r ≡ zeros (drop at (now (memory .entry))) ⌝ }
 {
     let mut so_far = true;
     let mut i = at;
-    while i < mem.len() {
-        so_far = so_far & (mem[i] == 0);
+    while i < memory.len() {
+        so_far = so_far & (memory[i] == 0);
         i += 1;
     }
     so_far
 }
 
 // Makes every octet from `at` on 0.
-pub fn clear_from(mem: &mut [u8], at: usize)
-    ensures { λ _. ⌜ now (mem .exit) ≡ zeroFrom at (now (mem .entry)) ⌝ }
+pub fn clear_from(memory: &mut [u8], at: usize)
+    ensures { λ _. ⌜ now (memory .exit) ≡ zeroFrom at (now (memory .entry)) ⌝ }
 {
     let mut i = at;
-    while i < mem.len() {
-        mem[i] = 0;
+    while i < memory.len() {
+        memory[i] = 0;
         i += 1;
     }
 }

@@ -21,63 +21,63 @@ pub struct Rec {
 }
 
 // Record i of those that the memory has room for.
-fn load_at(mem: &[u8], i: usize) -> Rec
-    requires { ⌜ i * 12 + 12 ≤ length (now mem) ⌝ }
-    ensures { λ r. ⌜ r ≡ getD (view (now (mem .entry))) i blank ⌝ }
+fn load_at(memory: &[u8], i: usize) -> Rec
+    requires { ⌜ i * 12 + 12 ≤ length (now memory) ⌝ }
+    ensures { λ r. ⌜ r ≡ getD (view (now (memory .entry))) i blank ⌝ }
 {
     let a = i * SIZE;
     Rec {
-        station: octets::join(mem[a], mem[a + 1], mem[a + 2], mem[a + 3]),
-        first: octets::join(mem[a + 4], mem[a + 5], mem[a + 6], mem[a + 7]),
-        rate: mem[a + 8],
-        superframes: mem[a + 9],
-        length: mem[a + 10],
-        far: mem[a + 11],
+        station: octets::join(memory[a], memory[a + 1], memory[a + 2], memory[a + 3]),
+        first: octets::join(memory[a + 4], memory[a + 5], memory[a + 6], memory[a + 7]),
+        rate: memory[a + 8],
+        superframes: memory[a + 9],
+        length: memory[a + 10],
+        far: memory[a + 11],
     }
 }
 
 // Writes r over record i of those that the memory has room for. All of r is at hand before the first octet is written.
-fn store_at(mem: &mut [u8], i: usize, r: Rec)
-    requires { ⌜ i * 12 + 12 ≤ length (now mem) ⌝ }
-    ensures octets { λ _. ⌜ now (mem .exit) ≡ put (now (mem .entry)) i r ⌝ }
-    ensures records { λ _. ⌜ view (now (mem .exit)) ≡ set (view (now (mem .entry))) i r ⌝ }
+fn store_at(memory: &mut [u8], i: usize, r: Rec)
+    requires { ⌜ i * 12 + 12 ≤ length (now memory) ⌝ }
+    ensures octets { λ _. ⌜ now (memory .exit) ≡ put (now (memory .entry)) i r ⌝ }
+    ensures records { λ _. ⌜ view (now (memory .exit)) ≡ set (view (now (memory .entry))) i r ⌝ }
 {
     let a = i * SIZE;
     let s = octets::split(r.station);
     let f = octets::split(r.first);
-    mem[a] = s[0];
-    mem[a + 1] = s[1];
-    mem[a + 2] = s[2];
-    mem[a + 3] = s[3];
-    mem[a + 4] = f[0];
-    mem[a + 5] = f[1];
-    mem[a + 6] = f[2];
-    mem[a + 7] = f[3];
-    mem[a + 8] = r.rate;
-    mem[a + 9] = r.superframes;
-    mem[a + 10] = r.length;
-    mem[a + 11] = r.far;
+    memory[a] = s[0];
+    memory[a + 1] = s[1];
+    memory[a + 2] = s[2];
+    memory[a + 3] = s[3];
+    memory[a + 4] = f[0];
+    memory[a + 5] = f[1];
+    memory[a + 6] = f[2];
+    memory[a + 7] = f[3];
+    memory[a + 8] = r.rate;
+    memory[a + 9] = r.superframes;
+    memory[a + 10] = r.length;
+    memory[a + 11] = r.far;
 }
 
 // Whether a memory is a whole number of records.
-pub fn whole(mem: &[u8]) -> bool
-    ensures { λ b. ⌜ b ≡ whole (now (mem .entry)) ⌝ }
+pub fn whole(memory: &[u8]) -> bool
+    ensures { λ b. ⌜ b ≡ whole (now (memory .entry)) ⌝ }
 {
-    mem.len() % SIZE == 0
+    memory.len() % SIZE == 0
 }
 
 // How many records a memory has room for.
-pub fn capacity(mem: &[u8]) -> usize
-    ensures { λ n. ⌜ n ≡ capacity (now (mem .entry)) ⌝ }
+pub fn capacity(memory: &[u8]) -> usize
+    ensures { λ n. ⌜ n ≡ capacity (now (memory .entry)) ⌝ }
 {
-    mem.len() / SIZE
+    memory.len() / SIZE
 }
 
 // How many of the first n records there are. In a loop up to it the compiler leaves out load's own test.
-pub fn held_count(mem: &[u8], n: usize) -> usize
-    ensures { λ r. ⌜ (r ≡ min n (capacity (now (mem .entry)))) × (r ≤ capacity (now (mem .entry))) × (take r (view (now (mem .entry))) ≡ take n (view (now (mem .entry)))) ⌝ }
+pub fn held_count(memory: &[u8], n: usize) -> usize
+    ensures { λ r. ⌜ (r ≡ min n (capacity (now (memory .entry)))) × (r ≤ capacity (now (memory .entry))) × (take r (view (now (memory .entry))) ≡ take n (view (now (memory .entry)))) ⌝ }
 {
-    let all = capacity(mem);
+    let all = capacity(memory);
     if n < all {
         return n;
     }
@@ -85,30 +85,30 @@ pub fn held_count(mem: &[u8], n: usize) -> usize
 }
 
 // Whether every octet after the first n records is 0. Where n is above the capacity there is none, and n * SIZE might not fit.
-pub fn is_clear(mem: &[u8], n: usize) -> bool
-    ensures { λ b. ⌜ b ≡ zeros (rest n (now (mem .entry))) ⌝ }
+pub fn is_clear(memory: &[u8], n: usize) -> bool
+    ensures { λ b. ⌜ b ≡ zeros (rest n (now (memory .entry))) ⌝ }
 {
-    if n <= mem.len() / SIZE {
-        return octets::zero_from(mem, n * SIZE);
+    if n <= memory.len() / SIZE {
+        return octets::zero_from(memory, n * SIZE);
     }
     true
 }
 
 // Makes every octet after the first n records 0. Where n is above the capacity there is none.
-pub fn clear(mem: &mut [u8], n: usize)
-    ensures { λ _. ⌜ now (mem .exit) ≡ zeroFrom (n * size) (now (mem .entry)) ⌝ }
+pub fn clear(memory: &mut [u8], n: usize)
+    ensures { λ _. ⌜ now (memory .exit) ≡ zeroFrom (n * size) (now (memory .entry)) ⌝ }
 {
-    if n <= mem.len() / SIZE {
-        octets::clear_from(mem, n * SIZE);
+    if n <= memory.len() / SIZE {
+        octets::clear_from(memory, n * SIZE);
     }
 }
 
 // Record i; past the last, the record of zeros.
-pub fn load(mem: &[u8], i: usize) -> Rec
-    ensures { λ r. ⌜ r ≡ getD (view (now (mem .entry))) i blank ⌝ }
+pub fn load(memory: &[u8], i: usize) -> Rec
+    ensures { λ r. ⌜ r ≡ getD (view (now (memory .entry))) i blank ⌝ }
 {
-    if i < mem.len() / SIZE {
-        return load_at(mem, i);
+    if i < memory.len() / SIZE {
+        return load_at(memory, i);
     }
     Rec {
         station: 0,
@@ -121,12 +121,12 @@ pub fn load(mem: &[u8], i: usize) -> Rec
 }
 
 // Writes r over record i; past the last, nothing is written.
-pub fn store(mem: &mut [u8], i: usize, r: Rec)
-    ensures octets { λ _. ⌜ now (mem .exit) ≡ put (now (mem .entry)) i r ⌝ }
-    ensures records { λ _. ⌜ view (now (mem .exit)) ≡ set (view (now (mem .entry))) i r ⌝ }
+pub fn store(memory: &mut [u8], i: usize, r: Rec)
+    ensures octets { λ _. ⌜ now (memory .exit) ≡ put (now (memory .entry)) i r ⌝ }
+    ensures records { λ _. ⌜ view (now (memory .exit)) ≡ set (view (now (memory .entry))) i r ⌝ }
 {
-    if i < mem.len() / SIZE {
-        store_at(mem, i, r);
+    if i < memory.len() / SIZE {
+        store_at(memory, i, r);
     }
 }
 

@@ -107,9 +107,9 @@ fn lengthen(r: Runs, x: Slot) -> Runs
 }
 
 // The runs over the n slots from lo on.
-fn warm_up(s: State, mem: &[u8], lo: u32, n: u32) -> Runs
+fn warm_up(s: State, memory: &[u8], lo: u32, n: u32) -> Runs
     requires { ⌜ lo + n < 4294967295 ⌝ }
-    ensures { λ v. ⌜ v ≡ runs (statesOf (read (channel s (now (mem .entry))))) lo n ⌝ }
+    ensures { λ v. ⌜ v ≡ runs (statesOf (read (channel s (now (memory .entry))))) lo n ⌝ }
 {
     let mut r = Runs {
         free: 0,
@@ -117,7 +117,7 @@ fn warm_up(s: State, mem: &[u8], lo: u32, n: u32) -> Runs
     };
     let mut i = 0;
     while i < n {
-        r = lengthen(r, table::judge(s, mem, lo + i));
+        r = lengthen(r, table::judge(s, memory, lo + i));
         i += 1;
     }
     r
@@ -155,21 +155,21 @@ fn append(list: &mut [u32], n: usize, most: usize, later: &[u32], kept: usize) -
 }
 
 // Goes along the slots, each judged once, with the level 0 starts in `list` and the level 1 starts in `later`, both wiped.
-fn scan(s: State, mem: &[u8], q: Query, list: &mut [u32], later: &mut [u32]) -> usize
+fn scan(s: State, memory: &[u8], q: Query, list: &mut [u32], later: &mut [u32]) -> usize
     requires { ⌜ WellAsked q (length (now list)) × (q .wanted ≤ length (now later)) ⌝ }
     requires { ⌜ (now list ≡ holdsOnly (length (now list)) []) × (now later ≡ holdsOnly (length (now later)) []) ⌝ }
-    ensures number { λ r. ⌜ r ≡ length (listed (statesOf (read (channel s (now (mem .entry))))) q) ⌝ }
-    ensures list { λ _. ⌜ now (list .exit) ≡ holdsOnly (length (now (list .entry))) (listed (statesOf (read (channel s (now (mem .entry))))) q) ⌝ }
+    ensures number { λ r. ⌜ r ≡ length (listed (statesOf (read (channel s (now (memory .entry))))) q) ⌝ }
+    ensures list { λ _. ⌜ now (list .exit) ≡ holdsOnly (length (now (list .entry))) (listed (statesOf (read (channel s (now (memory .entry))))) q) ⌝ }
 {
     let most = q.wanted as usize;
     let length = q.length;
     let last = length - 1;
-    let mut r = warm_up(s, mem, q.lo, last);
+    let mut r = warm_up(s, memory, q.lo, last);
     let mut start = q.lo;
     let mut n = 0;
     let mut kept = 0;
     while start <= q.hi {
-        r = lengthen(r, table::judge(s, mem, start + last));
+        r = lengthen(r, table::judge(s, memory, start + last));
         let free = length <= r.free;
         n = push(list, n, most, start, free);
         kept = push(later, kept, most, start, !free & (length <= r.untaken));
@@ -183,19 +183,19 @@ fn scan(s: State, mem: &[u8], q: Query, list: &mut [u32], later: &mut [u32]) -> 
 
 // Lists the first starts in lo..hi of a block that is free, then of one that has no taken slot, into a list that is wiped at each
 // call. Refused, in this order: 11, 19, 9, 20, 1, 21.
-pub fn search(s: State, mem: &[u8], q: Query, list: &mut [u32]) -> Found
-    ensures answer { λ r. ⌜ r ≡ searched (channel s (now (mem .entry))) q (length (now (list .entry))) ⌝ }
-    ensures list { λ _. ⌜ now (list .exit) ≡ listAfter (channel s (now (mem .entry))) q (length (now (list .entry))) ⌝ }
+pub fn search(s: State, memory: &[u8], q: Query, list: &mut [u32]) -> Found
+    ensures answer { λ r. ⌜ r ≡ searched (channel s (now (memory .entry))) q (length (now (list .entry))) ⌝ }
+    ensures list { λ _. ⌜ now (list .exit) ≡ listAfter (channel s (now (memory .entry))) q (length (now (list .entry))) ⌝ }
 {
     wipe(list);
     let places = list.len();
-    if table::is_sound(s, mem) {
+    if table::is_sound(s, memory) {
         let n = ask(s, q, places);
         if n != 0 {
             return refuse(n);
         }
         let mut later = [0u32; 16];
-        let found = scan(s, mem, q, list, &mut later);
+        let found = scan(s, memory, q, list, &mut later);
         if found == 0 {
             return refuse(21);
         }

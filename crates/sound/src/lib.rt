@@ -21,9 +21,9 @@ fn in_range(lo: u32, hi: u32, x: u32) -> bool
 }
 
 // The ranges are tested here, and on widened octets: apart from the sum, or as octets, they become vector code, which is slower.
-fn is_good(r: Rec, m1: u32, t: u32, reciprocals: &[u32; 61]) -> bool
+fn is_good(r: Rec, m1: u32, time: u32, reciprocals: &[u32; 61]) -> bool
     requires { ⌜ (m1 ≤ 15360) × (areReciprocals (now reciprocals) ≡ true) ⌝ }
-    ensures { λ b. ⌜ b ≡ good m1 t r ⌝ }
+    ensures { λ b. ⌜ b ≡ good m1 time r ⌝ }
 {
     let station = r.station < 134217728;
     let first = r.first <= 1000000255;
@@ -32,21 +32,21 @@ fn is_good(r: Rec, m1: u32, t: u32, reciprocals: &[u32; 61]) -> bool
     let length = in_range(1, 32, r.length as u32);
     let far = r.far <= 1;
     if station & first & rate & superframes & length & far {
-        return t <= last_slot(r, m1, reciprocals);
+        return time <= last_slot(r, m1, reciprocals);
     }
     false
 }
 
 // Whether all of the first n records are good.
-fn all_good(mem: &[u8], n: usize, m1: u32, t: u32) -> bool
+fn all_good(memory: &[u8], n: usize, m1: u32, time: u32) -> bool
     requires { ⌜ m1 ≤ 15360 ⌝ }
-    ensures { λ b. ⌜ b ≡ every (good m1 t) (take n (view (now (mem .entry)))) ⌝ }
+    ensures { λ b. ⌜ b ≡ every (good m1 time) (take n (view (now (memory .entry)))) ⌝ }
 {
     let reciprocals = RECIPROCALS;
-    let held = record::held_count(mem, n);
+    let held = record::held_count(memory, n);
     let mut i = 0;
     while i < held {
-        if !is_good(record::load(mem, i), m1, t, &reciprocals) {
+        if !is_good(record::load(memory, i), m1, time, &reciprocals) {
             return false;
         }
         i += 1;
@@ -62,36 +62,36 @@ pub fn m1_fits(m1: u32) -> bool
 }
 
 // Whether a memory is a whole number of records, 1 to 2,048.
-pub fn size_fits(mem: &[u8]) -> bool
-    ensures { λ b. ⌜ b ≡ sizeFits (now (mem .entry)) ⌝ }
+pub fn size_fits(memory: &[u8]) -> bool
+    ensures { λ b. ⌜ b ≡ sizeFits (now (memory .entry)) ⌝ }
 {
-    let whole = record::whole(mem);
-    let n = record::capacity(mem);
+    let whole = record::whole(memory);
+    let n = record::capacity(memory);
     let few = n < 1;
     let many = 2048 < n;
     whole & !(few | many)
 }
 
 // Whether the size and the numbers beside the records fit.
-fn numbers_fit(m1: u32, t: u32, count: u32, mem: &[u8]) -> bool
-    ensures { λ b. ⌜ b ≡ numbersFit (record { m1 = m1; now = t; count = count; memory = now (mem .entry) }) ⌝ }
+fn numbers_fit(m1: u32, time: u32, count: u32, memory: &[u8]) -> bool
+    ensures { λ b. ⌜ b ≡ numbersFit (record { m1 = m1; now = time; count = count; memory = now (memory .entry) }) ⌝ }
 {
-    let size = size_fits(mem);
+    let size = size_fits(memory);
     let row = m1_fits(m1);
-    let time = t <= 1000000000;
+    let early = time <= 1000000000;
     let n = count as usize;
-    let room = n <= record::capacity(mem);
-    size & row & time & room
+    let room = n <= record::capacity(memory);
+    size & row & early & room
 }
 
-// Whether a table of M1 slots at time t is sound: what stands beside the records fits, they are good, and all after them is 0.
-pub fn is_sound(m1: u32, t: u32, count: u32, mem: &[u8]) -> bool
-    ensures { λ b. ⌜ b ≡ sound (record { m1 = m1; now = t; count = count; memory = now (mem .entry) }) ⌝ }
+// Whether a table of M1 slots at a time is sound: what stands beside the records fits, they are good, and all after them is 0.
+pub fn is_sound(m1: u32, time: u32, count: u32, memory: &[u8]) -> bool
+    ensures { λ b. ⌜ b ≡ sound (record { m1 = m1; now = time; count = count; memory = now (memory .entry) }) ⌝ }
 {
-    if numbers_fit(m1, t, count, mem) {
+    if numbers_fit(m1, time, count, memory) {
         let n = count as usize;
-        if all_good(mem, n, m1, t) {
-            return record::is_clear(mem, n);
+        if all_good(memory, n, m1, time) {
+            return record::is_clear(memory, n);
         }
     }
     false

@@ -60,10 +60,10 @@ struct Stay {
 // ---- soundness
 
 // Whether a table is sound; every call that takes one asks this first.
-pub fn is_sound(s: State, mem: &[u8]) -> bool
-    ensures { λ b. ⌜ b ≡ sound (channel s (now (mem .entry))) ⌝ }
+pub fn is_sound(s: State, memory: &[u8]) -> bool
+    ensures { λ b. ⌜ b ≡ sound (channel s (now (memory .entry))) ⌝ }
 {
-    sound::is_sound(s.m1, s.now, s.count, mem)
+    sound::is_sound(s.m1, s.now, s.count, memory)
 }
 
 // ---- steps of the calls
@@ -87,23 +87,23 @@ fn does_stay(rule: Stay, r: Rec) -> bool
 }
 
 // Writes record i over record k, unless they are the same: until the first record goes, nothing is moved.
-fn move_down(mem: &mut [u8], i: usize, k: usize, r: Rec)
-    requires { ⌜ (k ≤ i) × (r ≡ getD (view (now mem)) i blank) ⌝ }
-    ensures { λ _. ⌜ view (now (mem .exit)) ≡ set (view (now (mem .entry))) k r ⌝ }
+fn move_down(memory: &mut [u8], i: usize, k: usize, r: Rec)
+    requires { ⌜ (k ≤ i) × (r ≡ getD (view (now memory)) i blank) ⌝ }
+    ensures { λ _. ⌜ view (now (memory .exit)) ≡ set (view (now (memory .entry))) k r ⌝ }
 {
     if k < i {
-        record::store(mem, k, r);
+        record::store(memory, k, r);
     }
 }
 
 // Moves record i down to place k, whether it stays or not: a branch by that would often be guessed wrong. The next k.
-fn sift(mem: &mut [u8], i: usize, k: usize, rule: Stay) -> usize
-    requires { ⌜ (k ≤ i) × (i < capacity (now mem)) ⌝ }
-    ensures next { λ r. ⌜ r ≡ sieved (stays rule) (view (now (mem .entry))) i (k + 1) k ⌝ }
-    ensures left { λ _. ⌜ view (now (mem .exit)) ≡ set (view (now (mem .entry))) k (getD (view (now (mem .entry))) i blank) ⌝ }
+fn sift(memory: &mut [u8], i: usize, k: usize, rule: Stay) -> usize
+    requires { ⌜ (k ≤ i) × (i < capacity (now memory)) ⌝ }
+    ensures next { λ r. ⌜ r ≡ sieved (stays rule) (view (now (memory .entry))) i (k + 1) k ⌝ }
+    ensures left { λ _. ⌜ view (now (memory .exit)) ≡ set (view (now (memory .entry))) k (getD (view (now (memory .entry))) i blank) ⌝ }
 {
-    let r = record::load(mem, i);
-    move_down(mem, i, k, r);
+    let r = record::load(memory, i);
+    move_down(memory, i, k, r);
     if does_stay(rule, r) {
         return k + 1;
     }
@@ -111,35 +111,35 @@ fn sift(mem: &mut [u8], i: usize, k: usize, rule: Stay) -> usize
 }
 
 // Moves those of the first n records that stay to the front, in order. How many they are.
-fn compact(mem: &mut [u8], n: usize, rule: Stay) -> usize
-    ensures kept { λ r. ⌜ r ≡ length (keep (stays rule) (take n (view (now (mem .entry))))) ⌝ }
-    ensures front { λ r. ⌜ take r (view (now (mem .exit))) ≡ keep (stays rule) (take n (view (now (mem .entry)))) ⌝ }
+fn compact(memory: &mut [u8], n: usize, rule: Stay) -> usize
+    ensures kept { λ r. ⌜ r ≡ length (keep (stays rule) (take n (view (now (memory .entry))))) ⌝ }
+    ensures front { λ r. ⌜ take r (view (now (memory .exit))) ≡ keep (stays rule) (take n (view (now (memory .entry)))) ⌝ }
 {
-    let held = record::held_count(mem, n);
+    let held = record::held_count(memory, n);
     let mut i = 0;
     let mut k = 0;
     while i < held {
-        k = sift(mem, i, k, rule);
+        k = sift(memory, i, k, rule);
         i += 1;
     }
     k
 }
 
-// Keeps the records that stay, closes the gaps and zeros the tail of a sound table, at time t: clock and wipe.
-fn sweep(s: State, mem: &mut [u8], t: u32, rule: Stay) -> Answer
-    requires { ⌜ sound (channel s (now mem)) ≡ true ⌝ }
-    ensures answer { λ r. ⌜ r ≡ swept (channel s (now (mem .entry))) t (stays rule) ⌝ }
-    ensures memory { λ _. ⌜ now (mem .exit) ≡ packed (capacity (now (mem .entry))) (keep (stays rule) (records (channel s (now (mem .entry))))) ⌝ }
+// Keeps the records that stay, closes the gaps and zeros the tail of a sound table, at a time: clock and wipe.
+fn sweep(s: State, memory: &mut [u8], time: u32, rule: Stay) -> Answer
+    requires { ⌜ sound (channel s (now memory)) ≡ true ⌝ }
+    ensures answer { λ r. ⌜ r ≡ swept (channel s (now (memory .entry))) time (stays rule) ⌝ }
+    ensures memory { λ _. ⌜ now (memory .exit) ≡ packed (capacity (now (memory .entry))) (keep (stays rule) (records (channel s (now (memory .entry))))) ⌝ }
 {
     let n = s.count as usize;
-    let kept = compact(mem, n, rule);
-    record::clear(mem, kept);
+    let kept = compact(memory, n, rule);
+    record::clear(memory, kept);
     Answer {
         refusal: 0,
         number: (n - kept) as u32,
         state: State {
             m1: s.m1,
-            now: t,
+            now: time,
             count: kept as u32,
         },
     }
@@ -160,13 +160,13 @@ fn is_same(x: Rec, r: Rec) -> bool
 }
 
 // Whether one of the first n records is the same reservation.
-fn has_same(mem: &[u8], n: usize, x: Rec) -> bool
-    ensures { λ b. ⌜ b ≡ has (same x) (take n (view (now (mem .entry)))) ⌝ }
+fn has_same(memory: &[u8], n: usize, x: Rec) -> bool
+    ensures { λ b. ⌜ b ≡ has (same x) (take n (view (now (memory .entry)))) ⌝ }
 {
-    let held = record::held_count(mem, n);
+    let held = record::held_count(memory, n);
     let mut i = 0;
     while i < held {
-        if is_same(x, record::load(mem, i)) {
+        if is_same(x, record::load(memory, i)) {
             return true;
         }
         i += 1;
@@ -175,20 +175,20 @@ fn has_same(mem: &[u8], n: usize, x: Rec) -> bool
 }
 
 // Adds a record at the end of a sound table, unless it is held already or there is no room.
-fn add(s: State, mem: &mut [u8], x: Rec) -> Answer
-    requires { ⌜ sound (channel s (now mem)) ≡ true ⌝ }
-    ensures answer { λ r. ⌜ r ≡ added (channel s (now (mem .entry))) x ⌝ }
-    ensures memory { λ _. ⌜ now (mem .exit) ≡ addedMemory (channel s (now (mem .entry))) x ⌝ }
+fn add(s: State, memory: &mut [u8], x: Rec) -> Answer
+    requires { ⌜ sound (channel s (now memory)) ≡ true ⌝ }
+    ensures answer { λ r. ⌜ r ≡ added (channel s (now (memory .entry))) x ⌝ }
+    ensures memory { λ _. ⌜ now (memory .exit) ≡ addedMemory (channel s (now (memory .entry))) x ⌝ }
 {
     let n = s.count as usize;
-    if has_same(mem, n, x) {
+    if has_same(memory, n, x) {
         return refuse(16, s);
     }
-    let all = record::capacity(mem);
+    let all = record::capacity(memory);
     if n == all {
         return refuse(17, s);
     }
-    record::store(mem, n, x);
+    record::store(memory, n, x);
     let count = s.count + 1;
     Answer {
         refusal: 0,
@@ -239,15 +239,15 @@ fn far_bit(d: Distance, limit: f64) -> u8
 }
 
 // Rewrites far in record i, where it is the station's. The next k.
-fn mark(mem: &mut [u8], i: usize, k: usize, station: u32, far: u8) -> usize
-    requires { ⌜ (k ≤ i) × (i < capacity (now mem)) ⌝ }
-    ensures next { λ r. ⌜ r ≡ sieved (of station) (view (now (mem .entry))) i (k + 1) k ⌝ }
-    ensures left { λ _. ⌜ view (now (mem .exit)) ≡ set (view (now (mem .entry))) i (setFar station far (getD (view (now (mem .entry))) i blank)) ⌝ }
+fn mark(memory: &mut [u8], i: usize, k: usize, station: u32, far: u8) -> usize
+    requires { ⌜ (k ≤ i) × (i < capacity (now memory)) ⌝ }
+    ensures next { λ r. ⌜ r ≡ sieved (of station) (view (now (memory .entry))) i (k + 1) k ⌝ }
+    ensures left { λ _. ⌜ view (now (memory .exit)) ≡ set (view (now (memory .entry))) i (setFar station far (getD (view (now (memory .entry))) i blank)) ⌝ }
 {
-    let r = record::load(mem, i);
+    let r = record::load(memory, i);
     if r.station == station {
         record::store(
-            mem,
+            memory,
             i,
             Rec {
                 station: r.station,
@@ -264,16 +264,16 @@ fn mark(mem: &mut [u8], i: usize, k: usize, station: u32, far: u8) -> usize
 }
 
 // The same for the first n records. How many are the station's.
-fn mark_all(mem: &mut [u8], n: usize, station: u32, far: u8) -> usize
-    requires { ⌜ n ≤ capacity (now mem) ⌝ }
-    ensures number { λ r. ⌜ r ≡ length (keep (of station) (take n (view (now (mem .entry))))) ⌝ }
-    ensures left { λ _. ⌜ view (now (mem .exit)) ≡ mapped (setFar station far) n (view (now (mem .entry))) ⌝ }
+fn mark_all(memory: &mut [u8], n: usize, station: u32, far: u8) -> usize
+    requires { ⌜ n ≤ capacity (now memory) ⌝ }
+    ensures number { λ r. ⌜ r ≡ length (keep (of station) (take n (view (now (memory .entry))))) ⌝ }
+    ensures left { λ _. ⌜ view (now (memory .exit)) ≡ mapped (setFar station far) n (view (now (memory .entry))) ⌝ }
 {
-    let held = record::held_count(mem, n);
+    let held = record::held_count(memory, n);
     let mut i = 0;
     let mut k = 0;
     while i < held {
-        k = mark(mem, i, k, station, far);
+        k = mark(memory, i, k, station, far);
         i += 1;
     }
     k
@@ -283,9 +283,9 @@ fn mark_all(mem: &mut [u8], n: usize, station: u32, far: u8) -> usize
 
 impl State {
     // Opens a table of M1 slots in lent memory. Refused, in this order: 10, 1.
-    pub fn open(mem: &mut [u8], m1: u32) -> Answer
-        ensures answer { λ r. ⌜ r ≡ openReturned m1 (now (mem .entry)) ⌝ }
-        ensures memory { λ _. ⌜ now (mem .exit) ≡ openLeaves m1 (now (mem .entry)) .memory ⌝ }
+    pub fn open(memory: &mut [u8], m1: u32) -> Answer
+        ensures answer { λ r. ⌜ r ≡ openReturned m1 (now (memory .entry)) ⌝ }
+        ensures memory { λ _. ⌜ now (memory .exit) ≡ openLeaves m1 (now (memory .entry)) .memory ⌝ }
     {
         let none = State {
             m1: 0,
@@ -293,8 +293,8 @@ impl State {
             count: 0,
         };
         if sound::m1_fits(m1) {
-            if sound::size_fits(mem) {
-                record::clear(mem, 0);
+            if sound::size_fits(memory) {
+                record::clear(memory, 0);
                 return Answer {
                     refusal: 0,
                     number: 0,
@@ -311,11 +311,11 @@ impl State {
     }
 
     // Sets now and drops the records that are over; reports how many. Refused, in this order: 11, 12, 13.
-    pub fn clock(self, mem: &mut [u8], slot: u32) -> Answer
-        ensures answer { λ r. ⌜ r ≡ returned (channel self (now (mem .entry))) (clock slot) ⌝ }
-        ensures memory { λ _. ⌜ now (mem .exit) ≡ leaves (channel self (now (mem .entry))) (clock slot) .memory ⌝ }
+    pub fn clock(self, memory: &mut [u8], slot: u32) -> Answer
+        ensures answer { λ r. ⌜ r ≡ returned (channel self (now (memory .entry))) (clock slot) ⌝ }
+        ensures memory { λ _. ⌜ now (memory .exit) ≡ leaves (channel self (now (memory .entry))) (clock slot) .memory ⌝ }
     {
-        if is_sound(self, mem) {
+        if is_sound(self, memory) {
             if slot < self.now {
                 return refuse(12, self);
             }
@@ -328,17 +328,17 @@ impl State {
                 m1: self.m1,
                 slot,
             };
-            return sweep(self, mem, slot, live);
+            return sweep(self, memory, slot, live);
         }
         refuse(11, self)
     }
 
     // Adds one record at the end. Refused, in this order: 11, 8, 14, 15, 9, 5, 18, 16, 17.
-    pub fn reserve(self, mem: &mut [u8], q: Request) -> Answer
-        ensures answer { λ r. ⌜ r ≡ returned (channel self (now (mem .entry))) (reserve q) ⌝ }
-        ensures memory { λ _. ⌜ now (mem .exit) ≡ leaves (channel self (now (mem .entry))) (reserve q) .memory ⌝ }
+    pub fn reserve(self, memory: &mut [u8], q: Request) -> Answer
+        ensures answer { λ r. ⌜ r ≡ returned (channel self (now (memory .entry))) (reserve q) ⌝ }
+        ensures memory { λ _. ⌜ now (memory .exit) ≡ leaves (channel self (now (memory .entry))) (reserve q) .memory ⌝ }
     {
-        if is_sound(self, mem) {
+        if is_sound(self, memory) {
             let n = judge_request(q);
             if n == 0 {
                 let d = q.distance;
@@ -351,7 +351,7 @@ impl State {
                     length: q.length as u8,
                     far,
                 };
-                return add(self, mem, x);
+                return add(self, memory, x);
             }
             return refuse(n, self);
         }
@@ -359,18 +359,18 @@ impl State {
     }
 
     // Rewrites far in all the station's records; reports how many it has. Refused, in this order: 11, 8, 18.
-    pub fn distance(self, mem: &mut [u8], station: u32, d: Distance, limit: f64) -> Answer
-        ensures answer { λ r. ⌜ r ≡ returned (channel self (now (mem .entry))) (distance station d limit) ⌝ }
-        ensures memory { λ _. ⌜ now (mem .exit) ≡ leaves (channel self (now (mem .entry))) (distance station d limit) .memory ⌝ }
+    pub fn distance(self, memory: &mut [u8], station: u32, d: Distance, limit: f64) -> Answer
+        ensures answer { λ r. ⌜ r ≡ returned (channel self (now (memory .entry))) (distance station d limit) ⌝ }
+        ensures memory { λ _. ⌜ now (memory .exit) ≡ leaves (channel self (now (memory .entry))) (distance station d limit) .memory ⌝ }
     {
-        if is_sound(self, mem) {
+        if is_sound(self, memory) {
             if 134217728 <= station {
                 return refuse(8, self);
             }
             if distance::limit_fits(limit) {
                 let far = far_bit(d, limit);
                 let n = self.count as usize;
-                let k = mark_all(mem, n, station, far);
+                let k = mark_all(memory, n, station, far);
                 return Answer {
                     refusal: 0,
                     number: k as u32,
@@ -383,11 +383,11 @@ impl State {
     }
 
     // Removes the station's records; reports how many. Refused, in this order: 11, 8.
-    pub fn wipe(self, mem: &mut [u8], station: u32) -> Answer
-        ensures answer { λ r. ⌜ r ≡ returned (channel self (now (mem .entry))) (wipe station) ⌝ }
-        ensures memory { λ _. ⌜ now (mem .exit) ≡ leaves (channel self (now (mem .entry))) (wipe station) .memory ⌝ }
+    pub fn wipe(self, memory: &mut [u8], station: u32) -> Answer
+        ensures answer { λ r. ⌜ r ≡ returned (channel self (now (memory .entry))) (wipe station) ⌝ }
+        ensures memory { λ _. ⌜ now (memory .exit) ≡ leaves (channel self (now (memory .entry))) (wipe station) .memory ⌝ }
     {
-        if is_sound(self, mem) {
+        if is_sound(self, memory) {
             if 134217728 <= station {
                 return refuse(8, self);
             }
@@ -398,7 +398,7 @@ impl State {
                 m1: self.m1,
                 slot: 0,
             };
-            return sweep(self, mem, self.now, other);
+            return sweep(self, memory, self.now, other);
         }
         refuse(11, self)
     }
@@ -418,14 +418,14 @@ fn holds_more(r: Rec, m1: u32, slot: u32, any: bool) -> bool
 }
 
 // The state of any slot by the records held: it neither tests the table nor refuses a slot, and stops at the first near holder.
-pub fn judge(s: State, mem: &[u8], slot: u32) -> Slot
-    ensures { λ r. ⌜ r ≡ slotState (s .m1) (records (channel s (now (mem .entry)))) slot ⌝ }
+pub fn judge(s: State, memory: &[u8], slot: u32) -> Slot
+    ensures { λ r. ⌜ r ≡ slotState (s .m1) (records (channel s (now (memory .entry)))) slot ⌝ }
 {
-    let held = record::held_count(mem, s.count as usize);
+    let held = record::held_count(memory, s.count as usize);
     let mut any = false;
     let mut i = 0;
     while i < held {
-        let r = record::load(mem, i);
+        let r = record::load(memory, i);
         let holds = holds_more(r, s.m1, slot, any);
         let near = r.far != 1;
         if holds & near {
@@ -441,17 +441,17 @@ pub fn judge(s: State, mem: &[u8], slot: u32) -> Slot
 }
 
 // The slot state. Refused, in this order: 11, 12 for a slot behind now, 13 above the limit.
-pub fn slot_state(s: State, mem: &[u8], slot: u32) -> Slot
-    ensures { λ r. ⌜ r ≡ slotAnswer (channel s (now (mem .entry))) slot ⌝ }
+pub fn slot_state(s: State, memory: &[u8], slot: u32) -> Slot
+    ensures { λ r. ⌜ r ≡ slotAnswer (channel s (now (memory .entry))) slot ⌝ }
 {
-    if is_sound(s, mem) {
+    if is_sound(s, memory) {
         if slot < s.now {
             return Slot::Refused(12);
         }
         if 1000000000 < slot {
             return Slot::Refused(13);
         }
-        return judge(s, mem, slot);
+        return judge(s, memory, slot);
     }
     Slot::Refused(11)
 }

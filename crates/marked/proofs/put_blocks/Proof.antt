@@ -7,10 +7,10 @@ use Rattle.marked.proofs.put_blocks.Statement.{statement}
 use Rattle.marked.proofs.put_blocks.Tie as tie
 
 abbrev Inv-loop : tie.InvT-loop
-Inv-loop s mem from to was-held₀ n₀ slot₀ was-held n slot = n ≤ slot
+Inv-loop s memory from to was-held₀ n₀ slot₀ was-held n slot = n ≤ slot
 
 abbrev μ-loop : tie.MeasureT-loop
-μ-loop s mem from to was-held₀ n₀ slot₀ was-held n slot = to - slot
+μ-loop s memory from to was-held₀ n₀ slot₀ was-held n slot = to - slot
 
 slice-aggregate-put : tie.Need-slice-aggregate-put Inv-loop μ-loop
 slice-aggregate-put c = search needs

@@ -16,10 +16,10 @@ abbrev zero : ℕ → Bool
 zero b = eqb b 0
 
 abbrev Inv-loop : tie.InvT-loop
-Inv-loop mem at so-far₀ i₀ so-far i = zeros (drop at mem) ≡ (so-far && zeros (drop i mem))
+Inv-loop memory at so-far₀ i₀ so-far i = zeros (drop at memory) ≡ (so-far && zeros (drop i memory))
 
 abbrev μ-loop : tie.MeasureT-loop
-μ-loop mem at so-far₀ i₀ so-far i = length mem - i
+μ-loop memory at so-far₀ i₀ so-far i = length memory - i
 
 loop-holds : tie.Need-loop-holds Inv-loop μ-loop
 loop-holds c = refl
@@ -36,12 +36,12 @@ loop-less c = omega arith
 loop-again : tie.Need-loop-again Inv-loop μ-loop
 loop-again c =
     let h = c .before .before in
-    h .loop .inv ∙ every-next zero (now (h .before .args .mem)) (h .loop .i) (h .loop .so-far) 0 (c .before .loop-test .taken)
+    h .loop .inv ∙ every-next zero (now (h .before .args .memory)) (h .loop .i) (h .loop .so-far) 0 (c .before .loop-test .taken)
 
 returns : tie.Need-returns Inv-loop μ-loop
 returns c =
     let h = c .before in
-    every-end zero (now (h .before .args .mem)) (h .loop .i) (h .loop .so-far) (c .loop-test .left) ∙ sym (h .loop .inv)
+    every-end zero (now (h .before .args .memory)) (h .loop .i) (h .loop .so-far) (c .loop-test .left) ∙ sym (h .loop .inv)
 
 pub zero-from-spec : {M : Type 1} → statement M
 zero-from-spec =

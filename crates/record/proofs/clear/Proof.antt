@@ -28,7 +28,7 @@ returns-2 : tie.Need-returns-2
 unfolding size
 returns-2 c =
     let s = c .before .before in
-    let m = now (s .args .mem) in
+    let m = now (s .args .memory) in
     let z : length m - s .args .n * 12 ≡ 0 = omega arith in
     rw (z, take-all (s .args .n * 12) m (omega arith), append-nil)
 

@@ -18,7 +18,7 @@ returns c = (omega arith, omega arith, refl)
 returns-2 : tie.Need-returns-2
 returns-2 c =
     let a = c .before .before .before .args in
-    let m = now (a .mem) in
+    let m = now (a .memory) in
     let l = length-view m in
     (omega arith, omega arith, rw (c .before .capacity .ensures, take-all (a .n) (view m) (omega (arith, l)), take-all (capacity m) (view m) (omega (arith, l))))
 

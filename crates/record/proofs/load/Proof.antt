@@ -19,7 +19,7 @@ returns c = search needs
 returns-2 : tie.Need-returns-2
 unfolding blank capacity size
 returns-2 c =
-    let m = now (c .before .before .args .mem) in
+    let m = now (c .before .before .args .memory) in
     sym (List·getD-eq-default (view m) blank {n = c .before .before .args .i} (omega (arith, length-view m)))
 
 pub load-spec : {M : Type 1} → statement M

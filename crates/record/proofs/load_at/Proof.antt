@@ -86,7 +86,7 @@ shared-slice-read-t40 c = search needs
 returns : tie.Need-returns
 returns c =
     let s = c .before .before .before .before .before .before .before .before .before .before .before .before .before .before .before in
-    rw (at-octets (now (s .args .mem)) (s .args .i) (s .pre), c .before .before .before .before .join2 .ensures, c .before .before .before .before .before .before .before .before .before .join .ensures)
+    rw (at-octets (now (s .args .memory)) (s .args .i) (s .pre), c .before .before .before .before .join2 .ensures, c .before .before .before .before .before .before .before .before .before .join .ensures)
 
 pub load-at-spec : {M : Type 1} → statement M
 load-at-spec =

@@ -24,7 +24,7 @@ returns-2 : tie.Need-returns-2
 unfolding capacity size
 returns-2 c =
     let s = c .before .before in
-    let m = now (s .args .mem) in (
+    let m = now (s .args .memory) in (
       sym (put-out m (s .args .i) (s .args .r) (omega arith)),
       sym (set-out (view m) (s .args .i) (s .args .r) (omega (arith, length-view m))),
     )

@@ -18,98 +18,98 @@ split-requires c κs = search needs
 split-requires-2 : tie.Need-split-requires-2
 split-requires-2 c κs = search needs
 
-array-read-mem : tie.Need-array-read-mem
-array-read-mem c = search needs
+array-read-memory : tie.Need-array-read-memory
+array-read-memory c = search needs
 
-slice-write-mem : tie.Need-slice-write-mem
-slice-write-mem c = search needs
+slice-write-memory : tie.Need-slice-write-memory
+slice-write-memory c = search needs
 
-array-read-mem-2 : tie.Need-array-read-mem-2
-array-read-mem-2 c = search needs
+array-read-memory-2 : tie.Need-array-read-memory-2
+array-read-memory-2 c = search needs
 
-add-mem : tie.Need-add-mem
-add-mem c = search needs
+add-memory : tie.Need-add-memory
+add-memory c = search needs
 
-slice-write-mem-2 : tie.Need-slice-write-mem-2
-slice-write-mem-2 c = simp length-set (omega arith)
+slice-write-memory-2 : tie.Need-slice-write-memory-2
+slice-write-memory-2 c = simp length-set (omega arith)
 
-array-read-mem-3 : tie.Need-array-read-mem-3
-array-read-mem-3 c = search needs
+array-read-memory-3 : tie.Need-array-read-memory-3
+array-read-memory-3 c = search needs
 
-add-mem-2 : tie.Need-add-mem-2
-add-mem-2 c = search needs
+add-memory-2 : tie.Need-add-memory-2
+add-memory-2 c = search needs
 
-slice-write-mem-3 : tie.Need-slice-write-mem-3
-slice-write-mem-3 c = simp length-set (omega arith)
+slice-write-memory-3 : tie.Need-slice-write-memory-3
+slice-write-memory-3 c = simp length-set (omega arith)
 
-array-read-mem-4 : tie.Need-array-read-mem-4
-array-read-mem-4 c = search needs
+array-read-memory-4 : tie.Need-array-read-memory-4
+array-read-memory-4 c = search needs
 
-add-mem-3 : tie.Need-add-mem-3
-add-mem-3 c = search needs
+add-memory-3 : tie.Need-add-memory-3
+add-memory-3 c = search needs
 
-slice-write-mem-4 : tie.Need-slice-write-mem-4
-slice-write-mem-4 c = simp length-set (omega arith)
+slice-write-memory-4 : tie.Need-slice-write-memory-4
+slice-write-memory-4 c = simp length-set (omega arith)
 
-array-read-mem-5 : tie.Need-array-read-mem-5
-array-read-mem-5 c = search needs
+array-read-memory-5 : tie.Need-array-read-memory-5
+array-read-memory-5 c = search needs
 
-add-mem-4 : tie.Need-add-mem-4
-add-mem-4 c = search needs
+add-memory-4 : tie.Need-add-memory-4
+add-memory-4 c = search needs
 
-slice-write-mem-5 : tie.Need-slice-write-mem-5
-slice-write-mem-5 c = simp length-set (omega arith)
+slice-write-memory-5 : tie.Need-slice-write-memory-5
+slice-write-memory-5 c = simp length-set (omega arith)
 
-array-read-mem-6 : tie.Need-array-read-mem-6
-array-read-mem-6 c = search needs
+array-read-memory-6 : tie.Need-array-read-memory-6
+array-read-memory-6 c = search needs
 
-add-mem-5 : tie.Need-add-mem-5
-add-mem-5 c = search needs
+add-memory-5 : tie.Need-add-memory-5
+add-memory-5 c = search needs
 
-slice-write-mem-6 : tie.Need-slice-write-mem-6
-slice-write-mem-6 c = simp length-set (omega arith)
+slice-write-memory-6 : tie.Need-slice-write-memory-6
+slice-write-memory-6 c = simp length-set (omega arith)
 
-array-read-mem-7 : tie.Need-array-read-mem-7
-array-read-mem-7 c = search needs
+array-read-memory-7 : tie.Need-array-read-memory-7
+array-read-memory-7 c = search needs
 
-add-mem-6 : tie.Need-add-mem-6
-add-mem-6 c = search needs
+add-memory-6 : tie.Need-add-memory-6
+add-memory-6 c = search needs
 
-slice-write-mem-7 : tie.Need-slice-write-mem-7
-slice-write-mem-7 c = simp length-set (omega arith)
+slice-write-memory-7 : tie.Need-slice-write-memory-7
+slice-write-memory-7 c = simp length-set (omega arith)
 
-array-read-mem-8 : tie.Need-array-read-mem-8
-array-read-mem-8 c = search needs
+array-read-memory-8 : tie.Need-array-read-memory-8
+array-read-memory-8 c = search needs
 
-add-mem-7 : tie.Need-add-mem-7
-add-mem-7 c = search needs
+add-memory-7 : tie.Need-add-memory-7
+add-memory-7 c = search needs
 
-slice-write-mem-8 : tie.Need-slice-write-mem-8
-slice-write-mem-8 c = simp length-set (omega arith)
+slice-write-memory-8 : tie.Need-slice-write-memory-8
+slice-write-memory-8 c = simp length-set (omega arith)
 
-add-mem-8 : tie.Need-add-mem-8
-add-mem-8 c = search needs
+add-memory-8 : tie.Need-add-memory-8
+add-memory-8 c = search needs
 
-slice-write-mem-9 : tie.Need-slice-write-mem-9
-slice-write-mem-9 c = simp length-set (omega arith)
+slice-write-memory-9 : tie.Need-slice-write-memory-9
+slice-write-memory-9 c = simp length-set (omega arith)
 
-add-mem-9 : tie.Need-add-mem-9
-add-mem-9 c = search needs
+add-memory-9 : tie.Need-add-memory-9
+add-memory-9 c = search needs
 
-slice-write-mem-10 : tie.Need-slice-write-mem-10
-slice-write-mem-10 c = simp length-set (omega arith)
+slice-write-memory-10 : tie.Need-slice-write-memory-10
+slice-write-memory-10 c = simp length-set (omega arith)
 
-add-mem-10 : tie.Need-add-mem-10
-add-mem-10 c = search needs
+add-memory-10 : tie.Need-add-memory-10
+add-memory-10 c = search needs
 
-slice-write-mem-11 : tie.Need-slice-write-mem-11
-slice-write-mem-11 c = simp length-set (omega arith)
+slice-write-memory-11 : tie.Need-slice-write-memory-11
+slice-write-memory-11 c = simp length-set (omega arith)
 
-add-mem-11 : tie.Need-add-mem-11
-add-mem-11 c = search needs
+add-memory-11 : tie.Need-add-memory-11
+add-memory-11 c = search needs
 
-slice-write-mem-12 : tie.Need-slice-write-mem-12
-slice-write-mem-12 c = simp length-set (omega arith)
+slice-write-memory-12 : tie.Need-slice-write-memory-12
+slice-write-memory-12 c = simp length-set (omega arith)
 
 same-length : tie.Need-same-length
 same-length c = simp length-set
@@ -118,7 +118,7 @@ returns : tie.Need-returns
 unfolding size fields
 returns c =
     let s = c .before .before .before in
-    let m = now (s .args .mem) in
+    let m = now (s .args .memory) in
     let i = s .args .i in
     let r = s .args .r in
     let k : i < capacity m = unfold capacity in omega arith in
@@ -132,36 +132,36 @@ store-at-spec =
     mul-a
     split-requires
     split-requires-2
-    array-read-mem
-    slice-write-mem
-    array-read-mem-2
-    add-mem
-    slice-write-mem-2
-    array-read-mem-3
-    add-mem-2
-    slice-write-mem-3
-    array-read-mem-4
-    add-mem-3
-    slice-write-mem-4
-    array-read-mem-5
-    add-mem-4
-    slice-write-mem-5
-    array-read-mem-6
-    add-mem-5
-    slice-write-mem-6
-    array-read-mem-7
-    add-mem-6
-    slice-write-mem-7
-    array-read-mem-8
-    add-mem-7
-    slice-write-mem-8
-    add-mem-8
-    slice-write-mem-9
-    add-mem-9
-    slice-write-mem-10
-    add-mem-10
-    slice-write-mem-11
-    add-mem-11
-    slice-write-mem-12
+    array-read-memory
+    slice-write-memory
+    array-read-memory-2
+    add-memory
+    slice-write-memory-2
+    array-read-memory-3
+    add-memory-2
+    slice-write-memory-3
+    array-read-memory-4
+    add-memory-3
+    slice-write-memory-4
+    array-read-memory-5
+    add-memory-4
+    slice-write-memory-5
+    array-read-memory-6
+    add-memory-5
+    slice-write-memory-6
+    array-read-memory-7
+    add-memory-6
+    slice-write-memory-7
+    array-read-memory-8
+    add-memory-7
+    slice-write-memory-8
+    add-memory-8
+    slice-write-memory-9
+    add-memory-9
+    slice-write-memory-10
+    add-memory-10
+    slice-write-memory-11
+    add-memory-11
+    slice-write-memory-12
     same-length
     returns)

@@ -14,12 +14,12 @@ use Rattle.search.proofs.scan.Statement.{statement}
 use Rattle.search.proofs.scan.Tie as tie
 
 abbrev Inv-loop : tie.InvT-loop
-Inv-loop s mem q list₀ later₀ most length′ last r₀ start₀ n₀ kept₀ list later r start n kept =
+Inv-loop s memory q list₀ later₀ most length′ last r₀ start₀ n₀ kept₀ list later r start n kept =
     (length list ≡ length list₀) × (length later ≡ length later₀)
-    × Scanned (statesOf (read (channel s mem))) q (length list₀) (length later₀) start r n kept list later
+    × Scanned (statesOf (read (channel s memory))) q (length list₀) (length later₀) start r n kept list later
 
 abbrev μ-loop : tie.MeasureT-loop
-μ-loop s mem q list₀ later₀ most length′ last r₀ start₀ n₀ kept₀ list later r start n kept = q .hi + 1 - start
+μ-loop s memory q list₀ later₀ most length′ last r₀ start₀ n₀ kept₀ list later r start n kept = q .hi + 1 - start
 
 -- ---- the places of what one turn knows
 
@@ -40,7 +40,7 @@ more : (c : tie.After-push2 Inv-loop μ-loop)
     → let p = at-push c in
     let h = at-loop p in
     let a = entry h .args in
-    Scanned (statesOf (read (channel (a .s) (now (a .mem))))) (a .q) (length (now (a .list))) (length (now (a .later)))
+    Scanned (statesOf (read (channel (a .s) (now (a .memory))))) (a .q) (length (now (a .list))) (length (now (a .later)))
     (h .loop .start + 1) (at-lengthen p .lengthen .result) (p .push .result) (c .push2 .result) (p .push .last .0) (c .push2 .last .0)
 unfolding read
 more c =

@@ -25,7 +25,7 @@ abbrev at-wipe : tie.After-is-sound → tie.After-wipe
 at-wipe c = c .before .before .before
 
 abbrev given : tie.After-is-sound → Channel
-given c = channel (entry c .args .s) (now (entry c .args .mem))
+given c = channel (entry c .args .s) (now (entry c .args .memory))
 
 abbrev places : tie.After-is-sound → ℕ
 places c = length (now (entry c .args .list))

@@ -12,10 +12,10 @@ use Rattle.search.proofs.warm_up.Statement.{statement}
 use Rattle.search.proofs.warm_up.Tie as tie
 
 abbrev Inv-loop : tie.InvT-loop
-Inv-loop s mem lo n r₀ i₀ r i = (i ≤ n) × (r ≡ runs (statesOf (read (channel s mem))) lo i)
+Inv-loop s memory lo n r₀ i₀ r i = (i ≤ n) × (r ≡ runs (statesOf (read (channel s memory))) lo i)
 
 abbrev μ-loop : tie.MeasureT-loop
-μ-loop s mem lo n r₀ i₀ r i = n - i
+μ-loop s memory lo n r₀ i₀ r i = n - i
 
 loop-holds : tie.Need-loop-holds Inv-loop μ-loop
 unfolding runs run
@@ -31,7 +31,7 @@ lengthen-requires : tie.Need-lengthen-requires Inv-loop μ-loop
 lengthen-requires c κs =
     let h = c .before .before in
     let a = h .before .before .args in
-    let small = runs-≤ (statesOf (read (channel (a .s) (now (a .mem))))) (a .lo) (h .loop .i) (h .loop .r) (h .loop .inv .1) in
+    let small = runs-≤ (statesOf (read (channel (a .s) (now (a .memory))))) (a .lo) (h .loop .i) (h .loop .r) (h .loop .inv .1) in
     omega arith
 
 add-i : tie.Need-add-i Inv-loop μ-loop
@@ -45,7 +45,7 @@ unfolding read
 loop-again c =
     let h = c .before .before .before in
     let a = h .before .before .args in
-    let states = statesOf (read (channel (a .s) (now (a .mem)))) in
+    let states = statesOf (read (channel (a .s) (now (a .memory)))) in
     (omega arith, c .lengthen .ensures ∙ rw (h .loop .inv .1, c .before .judge .ensures) (sym (runs-next states (a .lo) (h .loop .i))))
 
 returns : tie.Need-returns Inv-loop μ-loop

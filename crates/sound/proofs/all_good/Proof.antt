@@ -16,10 +16,10 @@ use Rattle.sound.proofs.all_good.Statement.{statement}
 use Rattle.sound.proofs.all_good.Tie as tie
 
 abbrev Inv-loop : tie.InvT-loop
-Inv-loop mem n m1 t reciprocals held i₀ i = every (good m1 t) (take n (view mem)) ≡ every (good m1 t) (toCome i held mem)
+Inv-loop memory n m1 t reciprocals held i₀ i = every (good m1 t) (take n (view memory)) ≡ every (good m1 t) (toCome i held memory)
 
 abbrev μ-loop : tie.MeasureT-loop
-μ-loop mem n m1 t reciprocals held i₀ i = held - i
+μ-loop memory n m1 t reciprocals held i₀ i = held - i
 
 held-count-requires : tie.Need-held-count-requires Inv-loop μ-loop
 held-count-requires c κs = search needs
@@ -41,7 +41,7 @@ returns c =
     let n = h .before .held-count in
     rw (
       h .loop .inv,
-      toCome-next (h .loop .i) (n .result) (now (s .args .mem)) (c .before .before .before .before .loop-test .taken) (n .ensures .1),
+      toCome-next (h .loop .i) (n .result) (now (s .args .memory)) (c .before .before .before .before .loop-test .taken) (n .ensures .1),
       ← c .before .before .before .load .ensures,
       ← c .before .is-good .ensures,
       not-true (c .before .is-good .result) (c .if1 .taken),
@@ -60,7 +60,7 @@ loop-again c =
     let n = h .before .held-count in
     rw (
       h .loop .inv,
-      toCome-next (h .loop .i) (n .result) (now (s .args .mem)) (c .before .before .before .before .loop-test .taken) (n .ensures .1),
+      toCome-next (h .loop .i) (n .result) (now (s .args .memory)) (c .before .before .before .before .loop-test .taken) (n .ensures .1),
       ← c .before .before .before .load .ensures,
       ← c .before .is-good .ensures,
       not-false (c .before .is-good .result) (c .if1 .left),
@@ -70,7 +70,7 @@ returns-2 : tie.Need-returns-2 Inv-loop μ-loop
 returns-2 c =
     let h = c .before in
     let s = h .before .before .before in
-    rw (h .loop .inv, toCome-none (h .loop .i) (h .before .held-count .result) (now (s .args .mem)) (c .loop-test .left))
+    rw (h .loop .inv, toCome-none (h .loop .i) (h .before .held-count .result) (now (s .args .memory)) (c .loop-test .left))
 
 pub all-good-spec : {M : Type 1} → statement M
 all-good-spec =

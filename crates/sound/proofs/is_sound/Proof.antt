@@ -15,7 +15,7 @@ numbers-fit-requires c κs = search needs
 all-good-requires : tie.Need-all-good-requires
 all-good-requires c κs =
     let s = c .before .before .before .args in
-    m1-most (record { m1 = s .m1; now = s .t; count = s .count; memory = now (s .mem) }) (sym (c .before .numbers-fit .ensures) ∙ c .if1 .taken)
+    m1-most (record { m1 = s .m1; now = s .time; count = s .count; memory = now (s .memory) }) (sym (c .before .numbers-fit .ensures) ∙ c .if1 .taken)
 
 is-clear-requires : tie.Need-is-clear-requires
 is-clear-requires c κs = search needs
@@ -26,7 +26,7 @@ returns c =
     let at-if1 = c .before .before .before in
     let at-numbers-fit = at-if1 .before in
     let s = at-numbers-fit .before .before .args in
-    let M : Channel = record { m1 = s .m1; now = s .t; count = s .count; memory = now (s .mem) } in
+    let M : Channel = record { m1 = s .m1; now = s .time; count = s .count; memory = now (s .memory) } in
     let f : numbersFit M ≡ true = sym (at-numbers-fit .numbers-fit .ensures) ∙ at-if1 .if1 .taken in
     let g : every (good (M .m1) (M .now)) (records M) ≡ true = sym (c .before .before .all-good .ensures) ∙ c .before .if2 .taken in
     rw (f, g, c .is-clear .ensures)
@@ -36,7 +36,7 @@ unfolding sound records
 returns-2 c =
     let at-numbers-fit = c .before .before .before in
     let s = at-numbers-fit .before .before .args in
-    let M : Channel = record { m1 = s .m1; now = s .t; count = s .count; memory = now (s .mem) } in
+    let M : Channel = record { m1 = s .m1; now = s .time; count = s .count; memory = now (s .memory) } in
     let f : numbersFit M ≡ true = sym (at-numbers-fit .numbers-fit .ensures) ∙ c .before .before .if1 .taken in
     let g : every (good (M .m1) (M .now)) (records M) ≡ false = sym (c .before .all-good .ensures) ∙ c .if2 .left in
     rw (f, g)
@@ -45,7 +45,7 @@ returns-3 : tie.Need-returns-3
 unfolding sound
 returns-3 c =
     let s = c .before .before .before .args in
-    let M : Channel = record { m1 = s .m1; now = s .t; count = s .count; memory = now (s .mem) } in
+    let M : Channel = record { m1 = s .m1; now = s .time; count = s .count; memory = now (s .memory) } in
     let f : numbersFit M ≡ false = sym (c .before .numbers-fit .ensures) ∙ c .if1 .left in
     rw f
 

@@ -34,7 +34,7 @@ returns : tie.Need-returns
 unfolding added addedMemory read records
 returns c =
     let s = c .before .before .before .before .before .before in
-    let M = channel (s .args .s) (now (s .args .mem)) in
+    let M = channel (s .args .s) (now (s .args .memory)) in
     let f : has (same (s .args .x)) (records M) ≡ true = sym (c .before .before .has-same .ensures) ∙ c .before .if1 .taken in
     (c .refuse .ensures ∙ answer-refused _ _ (rw f) (omega arith), answer-refused _ _ {n = 16} (rw f) (omega arith))
 
@@ -53,7 +53,7 @@ returns-2 c =
     let at-if1 = c .before .before .before .before in
     let at-has-same = at-if1 .before in
     let s = at-has-same .before .before .before .before in
-    let M = channel (s .args .s) (now (s .args .mem)) in
+    let M = channel (s .args .s) (now (s .args .memory)) in
     let k = held M (s .pre) in
     let f : has (same (s .args .x)) (records M) ≡ false = sym (at-has-same .has-same .ensures) ∙ at-if1 .if1 .left in
     let full = eq-eqb _ _ (c .before .if2 .taken ∙ c .before .before .capacity .ensures) in
@@ -65,7 +65,7 @@ store-requires c κs = search needs
 add-count : tie.Need-add-count
 add-count c =
     let s = c .before .before .before .before .before .before .before .before .before .before .before .before .before in
-    let M = channel (s .args .s) (now (s .args .mem)) in
+    let M = channel (s .args .s) (now (s .args .memory)) in
     let k = held M (s .pre) in
     omega (arith, k .room, k .capacity-most)
 
@@ -81,12 +81,12 @@ returns-3 c =
     let at-has-same = at-if1 .before in
     let at-slice = at-has-same .before .before .before in
     let s = at-slice .before in
-    let M = channel (s .args .s) (now (s .args .mem)) in
+    let M = channel (s .args .s) (now (s .args .memory)) in
     let k = held M (s .pre) in
     let f : has (same (s .args .x)) (records M) ≡ false = sym (at-has-same .has-same .ensures) ∙ at-if1 .if1 .left in
-    let other : M .count ≡ capacity (now (s .args .mem)) → ⊥ = λ e. at-if2 .if2 .left (e ∙ sym (at-capacity .capacity .ensures)) in
-    let room : M .count < capacity (now (s .args .mem)) = omega (arith, k .room, other) in
-    let free = ne-eqb (M .count) (capacity (now (s .args .mem))) other in (
+    let other : M .count ≡ capacity (now (s .args .memory)) → ⊥ = λ e. at-if2 .if2 .left (e ∙ sym (at-capacity .capacity .ensures)) in
+    let room : M .count < capacity (now (s .args .memory)) = omega (arith, k .room, other) in
+    let free = ne-eqb (M .count) (capacity (now (s .args .memory))) other in (
       answer-accepted _ _ (rw (f, k .counted, free)),
       c .before .before .before .store .ensures .0 ∙ packed-end M (s .args .x) k (λ i. at-slice .slice-known .given i .fits) room ∙ answer-accepted _ _ (rw (f, k .counted, free)),
     )

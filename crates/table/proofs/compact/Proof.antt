@@ -13,10 +13,10 @@ use Rattle.table.proofs.compact.Statement.{statement}
 use Rattle.table.proofs.compact.Tie as tie
 
 abbrev Inv-loop : tie.InvT-loop
-Inv-loop mem₀ n rule held i₀ k₀ mem i k = (i ≤ held) × (length mem ≡ length mem₀) × Sifted (stays rule) (view mem₀) (view mem) i k
+Inv-loop memory₀ n rule held i₀ k₀ memory i k = (i ≤ held) × (length memory ≡ length memory₀) × Sifted (stays rule) (view memory₀) (view memory) i k
 
 abbrev μ-loop : tie.MeasureT-loop
-μ-loop mem₀ n rule held i₀ k₀ mem i k = held - i
+μ-loop memory₀ n rule held i₀ k₀ memory i k = held - i
 
 held-count-requires : tie.Need-held-count-requires Inv-loop μ-loop
 held-count-requires c κs = search needs
@@ -28,8 +28,8 @@ sift-requires : tie.Need-sift-requires Inv-loop μ-loop
 sift-requires c κs =
     let h = c .before .before in
     let s = h .before .before .before .before in
-    let m = now (s .args .mem) in
-    omega (arith, h .before .held-count .ensures .1, same-capacity (h .loop .mem) m (h .loop .inv .1), kept-le (stays (s .args .rule)) (view m) (h .loop .i))
+    let m = now (s .args .memory) in
+    omega (arith, h .before .held-count .ensures .1, same-capacity (h .loop .memory) m (h .loop .inv .1), kept-le (stays (s .args .rule)) (view m) (h .loop .i))
 
 add-i : tie.Need-add-i Inv-loop μ-loop
 add-i c = omega arith
@@ -41,12 +41,12 @@ loop-again : tie.Need-loop-again Inv-loop μ-loop
 loop-again c =
     let h = c .before .before .before .before .before in
     let s = h .before .before .before .before in
-    let m = now (s .args .mem) in
+    let m = now (s .args .memory) in
     let sift = c .before .before .sift in (
       omega arith,
       sift .kept .0 ∙ h .loop .inv .1,
       rw (sift .ensures .0, sift .ensures .1)
-          (sifted-next (stays (s .args .rule)) (view m) (view (h .loop .mem)) (h .loop .i) (h .loop .k) (omega (arith, h .before .held-count .ensures .1, length-view m)) (h .loop .inv .2)),
+          (sifted-next (stays (s .args .rule)) (view m) (view (h .loop .memory)) (h .loop .i) (h .loop .k) (omega (arith, h .before .held-count .ensures .1, length-view m)) (h .loop .inv .2)),
     )
 
 same-length : tie.Need-same-length Inv-loop μ-loop

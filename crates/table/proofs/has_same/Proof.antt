@@ -13,10 +13,10 @@ use Rattle.table.proofs.has_same.Statement.{statement}
 use Rattle.table.proofs.has_same.Tie as tie
 
 abbrev Inv-loop : tie.InvT-loop
-Inv-loop mem n x held i₀ i = has (same x) (take n (view mem)) ≡ has (same x) (toCome i held mem)
+Inv-loop memory n x held i₀ i = has (same x) (take n (view memory)) ≡ has (same x) (toCome i held memory)
 
 abbrev μ-loop : tie.MeasureT-loop
-μ-loop mem n x held i₀ i = held - i
+μ-loop memory n x held i₀ i = held - i
 
 held-count-requires : tie.Need-held-count-requires Inv-loop μ-loop
 held-count-requires c κs = search needs
@@ -37,7 +37,7 @@ returns c =
     let n = h .before .held-count in
     rw (
       h .loop .inv,
-      toCome-next (h .loop .i) (n .result) (now (s .args .mem)) (c .before .before .before .loop-test .taken) (n .ensures .1),
+      toCome-next (h .loop .i) (n .result) (now (s .args .memory)) (c .before .before .before .loop-test .taken) (n .ensures .1),
       ← c .before .before .load .ensures,
       ← c .before .is-same .ensures,
       c .if1 .taken,
@@ -56,7 +56,7 @@ loop-again c =
     let n = h .before .held-count in
     rw (
       h .loop .inv,
-      toCome-next (h .loop .i) (n .result) (now (s .args .mem)) (c .before .before .before .loop-test .taken) (n .ensures .1),
+      toCome-next (h .loop .i) (n .result) (now (s .args .memory)) (c .before .before .before .loop-test .taken) (n .ensures .1),
       ← c .before .before .load .ensures,
       ← c .before .is-same .ensures,
       c .if1 .left,
@@ -66,7 +66,7 @@ returns-2 : tie.Need-returns-2 Inv-loop μ-loop
 returns-2 c =
     let h = c .before in
     let s = h .before .before .before in
-    rw (h .loop .inv, toCome-none (h .loop .i) (h .before .held-count .result) (now (s .args .mem)) (c .loop-test .left))
+    rw (h .loop .inv, toCome-none (h .loop .i) (h .before .held-count .result) (now (s .args .memory)) (c .loop-test .left))
 
 pub has-same-spec : {M : Type 1} → statement M
 has-same-spec =

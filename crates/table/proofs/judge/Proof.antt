@@ -15,11 +15,11 @@ use Rattle.table.proofs.judge.Statement.{statement}
 use Rattle.table.proofs.judge.Tie as tie
 
 abbrev Inv-loop : tie.InvT-loop
-Inv-loop s mem slot held any₀ i₀ any i =
-    slotState (s .m1) (records (channel s mem)) slot ≡ judged any (keep (λ r. reserves (s .m1) r slot) (toCome i held mem))
+Inv-loop s memory slot held any₀ i₀ any i =
+    slotState (s .m1) (records (channel s memory)) slot ≡ judged any (keep (λ r. reserves (s .m1) r slot) (toCome i held memory))
 
 abbrev μ-loop : tie.MeasureT-loop
-μ-loop s mem slot held any₀ i₀ any i = held - i
+μ-loop s memory slot held any₀ i₀ any i = held - i
 
 cast-held-count : tie.Need-cast-held-count Inv-loop μ-loop
 cast-held-count c = search needs
@@ -43,8 +43,8 @@ returns c =
     let a = h .before .before .before .before .args in
     let n = h .before .held-count in
     let load = c .before .before .before .load in
-    let near = judged-near (a .s .m1) (a .slot) (h .loop .any) (load .result) (toCome (h .loop .i + 1) (n .result) (now (a .mem))) in
-    let next = toCome-next (h .loop .i) (n .result) (now (a .mem)) (c .before .before .before .before .loop-test .taken) (n .ensures .1) in
+    let near = judged-near (a .s .m1) (a .slot) (h .loop .any) (load .result) (toCome (h .loop .i + 1) (n .result) (now (a .memory))) in
+    let next = toCome-next (h .loop .i) (n .result) (now (a .memory)) (c .before .before .before .before .loop-test .taken) (n .ensures .1) in
     sym (h .loop .inv ∙ rw (next, ← load .ensures) (near (rw (← c .before .before .holds-more .ensures) (c .if1 .taken))))
 
 add-i : tie.Need-add-i Inv-loop μ-loop
@@ -60,20 +60,20 @@ loop-again c =
     let n = h .before .held-count in
     let load = c .before .before .before .load in
     let holds = c .before .before .holds-more .ensures in
-    let other = judged-next (a .s .m1) (a .slot) (h .loop .any) (load .result) (toCome (h .loop .i + 1) (n .result) (now (a .mem))) in
-    let next = toCome-next (h .loop .i) (n .result) (now (a .mem)) (c .before .before .before .before .loop-test .taken) (n .ensures .1) in
+    let other = judged-next (a .s .m1) (a .slot) (h .loop .any) (load .result) (toCome (h .loop .i + 1) (n .result) (now (a .memory))) in
+    let next = toCome-next (h .loop .i) (n .result) (now (a .memory)) (c .before .before .before .before .loop-test .taken) (n .ensures .1) in
     h .loop .inv ∙ rw (next, ← load .ensures, holds) (other (rw (← holds) (c .if1 .left)))
 
 returns-2 : tie.Need-returns-2 Inv-loop μ-loop
 returns-2 c =
     let h = c .before .before in
-    let none = toCome-none (h .loop .i) (h .before .held-count .result) (now (h .before .before .before .before .args .mem)) (c .before .loop-test .left) in
+    let none = toCome-none (h .loop .i) (h .before .held-count .result) (now (h .before .before .before .before .args .memory)) (c .before .loop-test .left) in
     sym (h .loop .inv ∙ rw (none, judged-end, c .if2 .taken))
 
 returns-3 : tie.Need-returns-3 Inv-loop μ-loop
 returns-3 c =
     let h = c .before .before in
-    let none = toCome-none (h .loop .i) (h .before .held-count .result) (now (h .before .before .before .before .args .mem)) (c .before .loop-test .left) in
+    let none = toCome-none (h .loop .i) (h .before .held-count .result) (now (h .before .before .before .before .args .memory)) (c .before .loop-test .left) in
     sym (h .loop .inv ∙ rw (none, judged-end, c .if2 .left))
 
 pub judge-spec : {M : Type 1} → statement M

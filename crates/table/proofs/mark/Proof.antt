@@ -34,7 +34,7 @@ returns-2 : tie.Need-returns-2
 returns-2 c =
     let a = c .before .before .before .before .before .args in
     let load = c .before .before .load .ensures in
-    rw (← load, ne-eqb _ _ (c .if1 .left)) (refl, rw load (sym (set-getD (view (now (a .mem))) (a .i) blank)))
+    rw (← load, ne-eqb _ _ (c .if1 .left)) (refl, rw load (sym (set-getD (view (now (a .memory))) (a .i) blank)))
 
 pub mark-spec : {M : Type 1} → statement M
 mark-spec =

@@ -15,11 +15,11 @@ use Rattle.table.proofs.mark_all.Statement.{statement}
 use Rattle.table.proofs.mark_all.Tie as tie
 
 abbrev Inv-loop : tie.InvT-loop
-Inv-loop mem₀ n station far held i₀ k₀ mem i k =
-    (i ≤ held) × (length mem ≡ length mem₀) × (k ≡ length (keep (of station) (take i (view mem₀)))) × (view mem ≡ mapped (setFar station far) i (view mem₀))
+Inv-loop memory₀ n station far held i₀ k₀ memory i k =
+    (i ≤ held) × (length memory ≡ length memory₀) × (k ≡ length (keep (of station) (take i (view memory₀)))) × (view memory ≡ mapped (setFar station far) i (view memory₀))
 
 abbrev μ-loop : tie.MeasureT-loop
-μ-loop mem₀ n station far held i₀ k₀ mem i k = held - i
+μ-loop memory₀ n station far held i₀ k₀ memory i k = held - i
 
 held-count-requires : tie.Need-held-count-requires Inv-loop μ-loop
 held-count-requires c κs = search needs
@@ -32,8 +32,8 @@ mark-requires : tie.Need-mark-requires Inv-loop μ-loop
 mark-requires c κs =
     let h = c .before .before in
     let s = h .before .before .before .before in
-    let m = now (s .args .mem) in
-    omega (arith, h .before .held-count .ensures .1, same-capacity (h .loop .mem) m (h .loop .inv .1), kept-le (of (s .args .station)) (view m) (h .loop .i))
+    let m = now (s .args .memory) in
+    omega (arith, h .before .held-count .ensures .1, same-capacity (h .loop .memory) m (h .loop .inv .1), kept-le (of (s .args .station)) (view m) (h .loop .i))
 
 add-i : tie.Need-add-i Inv-loop μ-loop
 add-i c = omega arith
@@ -45,10 +45,10 @@ loop-again : tie.Need-loop-again Inv-loop μ-loop
 loop-again c =
     let h = c .before .before .before .before .before in
     let s = h .before .before .before .before in
-    let m = now (s .args .mem) in
+    let m = now (s .args .memory) in
     let vs = view m in
     let f = setFar (s .args .station) (s .args .far) in
-    let w = view (h .loop .mem) in
+    let w = view (h .loop .memory) in
     let i = h .loop .i in
     let l : i < length vs = omega (arith, h .before .held-count .ensures .1, length-view m) in
     let mark = c .before .before .mark in (

@@ -20,7 +20,7 @@ returns c = search needs
 returns-2 : tie.Need-returns-2
 returns-2 c =
     let s = c .before .before in
-    let vs = view (now (s .args .mem)) in
+    let vs = view (now (s .args .memory)) in
     let e : s .args .k ≡ s .args .i = omega arith in
     rw (e, s .pre .1) (set-itself vs (s .args .i))
 

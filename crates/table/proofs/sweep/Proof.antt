@@ -29,7 +29,7 @@ unfolding records
 sub-t12 c =
     let at-compact = c .before .before .before .before .before .before in
     let s = at-compact .before .before .before .before in
-    let M = channel (s .args .s) (now (s .args .mem)) in
+    let M = channel (s .args .s) (now (s .args .memory)) in
     let k = held M (s .pre) in
     let kept : at-compact .compact .result ≡ length (keep (stays (s .args .rule)) (records M)) = at-compact .compact .ensures .0 in
     omega (arith, length-kept M k (stays (s .args .rule)))
@@ -42,7 +42,7 @@ unfolding records
 cast-t14 c =
     let at-compact = c .before .before .before .before .before .before in
     let s = at-compact .before .before .before .before in
-    let M = channel (s .args .s) (now (s .args .mem)) in
+    let M = channel (s .args .s) (now (s .args .memory)) in
     let k = held M (s .pre) in
     let kept : at-compact .compact .result ≡ length (keep (stays (s .args .rule)) (records M)) = at-compact .compact .ensures .0 in
     omega (arith, length-kept M k (stays (s .args .rule)), k .room, k .capacity-most)
@@ -56,13 +56,13 @@ returns c =
     let at-slice = c .before .before .before .before in
     let at-compact = at-slice .before .before in
     let s = at-compact .before .before .before .before in
-    let M = channel (s .args .s) (now (s .args .mem)) in
+    let M = channel (s .args .s) (now (s .args .memory)) in
     let k = held M (s .pre) in
     let kept : at-compact .compact .result ≡ length (keep (stays (s .args .rule)) (records M)) = at-compact .compact .ensures .0 in
-    let room : length (keep (stays (s .args .rule)) (records M)) ≤ capacity (now (s .args .mem)) = omega (arith, length-kept M k (stays (s .args .rule)), k .room) in (
+    let room : length (keep (stays (s .args .rule)) (records M)) ≤ capacity (now (s .args .memory)) = omega (arith, length-kept M k (stays (s .args .rule)), k .room) in (
       rw kept,
       c .before .before .clear .ensures
-          ∙ rw kept (packed-front (now (s .args .mem)) (at-compact .compact .last .0) (keep (stays (s .args .rule)) (records M)) (λ i. at-slice .slice-known2 .given i .fits) (k .whole-records) (at-compact .compact .kept .0) room (rw kept at (at-compact .compact .ensures .1))),
+          ∙ rw kept (packed-front (now (s .args .memory)) (at-compact .compact .last .0) (keep (stays (s .args .rule)) (records M)) (λ i. at-slice .slice-known2 .given i .fits) (k .whole-records) (at-compact .compact .kept .0) room (rw kept at (at-compact .compact .ensures .1))),
     )
 
 pub sweep-spec : {M : Type 1} → statement M

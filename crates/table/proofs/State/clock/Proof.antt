@@ -30,7 +30,7 @@ unfolding read
 returns c =
     let at-is-sound = c .before .before .before .before in
     let s = at-is-sound .before .before .before .args in
-    let M = channel (s .self) (now (s .mem)) in
+    let M = channel (s .self) (now (s .memory)) in
     let h : sound M ≡ true = sym (at-is-sound .is-sound .ensures) ∙ c .before .before .before .if1 .taken in
     let g = refused-gives M (clock (s .slot)) 12 (sym (refusal-sound M (clock (s .slot)) h ∙ rw (lt-ltb _ _ (c .before .if2 .taken)))) (omega arith) in
     (c .refuse .ensures ∙ g .0, g .1)
@@ -47,7 +47,7 @@ returns-2 c =
     let at-if1 = c .before .before .before .before in
     let at-is-sound = at-if1 .before in
     let s = at-is-sound .before .before .before .args in
-    let M = channel (s .self) (now (s .mem)) in
+    let M = channel (s .self) (now (s .memory)) in
     let h : sound M ≡ true = sym (at-is-sound .is-sound .ensures) ∙ at-if1 .if1 .taken in
     let g = refused-gives M (clock (s .slot)) 13 (sym (refusal-sound M (clock (s .slot)) h ∙ rw (le-ltb _ _ (c .before .before .if2 .left), lt-ltb _ _ (c .before .if3 .taken)))) (omega arith) in
     (c .refuse2 .ensures ∙ g .0, g .1)
@@ -57,7 +57,7 @@ sweep-requires c κs =
     let at-if1 = c .before .before .before .before in
     let at-is-sound = at-if1 .before in
     let s = at-is-sound .before .before .before .args in
-    let M = channel (s .self) (now (s .mem)) in
+    let M = channel (s .self) (now (s .memory)) in
     let h : sound M ≡ true = sym (at-is-sound .is-sound .ensures) ∙ at-if1 .if1 .taken in
     h
 
@@ -72,7 +72,7 @@ returns-3 c =
     let at-if1 = at-if2 .before .before in
     let at-is-sound = at-if1 .before in
     let s = at-is-sound .before .before .before .args in
-    let M = channel (s .self) (now (s .mem)) in
+    let M = channel (s .self) (now (s .memory)) in
     let h : sound M ≡ true = sym (at-is-sound .is-sound .ensures) ∙ at-if1 .if1 .taken in
     let z : 0 ≡ refusal M (clock (s .slot)) = sym (refusal-sound M (clock (s .slot)) h ∙ rw (le-ltb _ _ (at-if2 .if2 .left), le-ltb _ _ (at-if3 .if3 .left))) in
     let live = lasts (M .m1) (s .slot) in
@@ -88,7 +88,7 @@ same-length-4 c = search needs
 returns-4 : tie.Need-returns-4
 returns-4 c =
     let s = c .before .before .before .before .before .args in
-    let M = channel (s .self) (now (s .mem)) in
+    let M = channel (s .self) (now (s .memory)) in
     let h : sound M ≡ false = sym (c .before .before .is-sound .ensures) ∙ c .before .if1 .left in
     let g = refused-gives M (clock (s .slot)) 11 (refusal-unsound M (clock (s .slot)) h) (omega arith) in
     (c .refuse3 .ensures ∙ g .0, g .1)

@@ -28,7 +28,7 @@ same-length c = search needs
 returns : tie.Need-returns
 returns c =
     let s = c .before .before .before .before .before .before .args in
-    let M = channel (s .self) (now (s .mem)) in
+    let M = channel (s .self) (now (s .memory)) in
     let h : sound M ≡ true = sym (c .before .before .before .is-sound .ensures) ∙ c .before .before .if1 .taken in
     let g = refused-gives M (distance (s .station) (s .d) (s .limit)) 8 (sym (refusal-sound M (distance (s .station) (s .d) (s .limit)) h ∙ rw (le-leb _ _ (c .before .if2 .taken)))) (omega arith) in
     (c .refuse .ensures ∙ g .0, g .1)
@@ -47,7 +47,7 @@ mark-all-requires c κs =
     let at-if1 = c .before .before .before .before .before .before in
     let at-is-sound = at-if1 .before in
     let s = at-is-sound .before .before .before .args in
-    let M = channel (s .self) (now (s .mem)) in
+    let M = channel (s .self) (now (s .memory)) in
     let h : sound M ≡ true = sym (at-is-sound .is-sound .ensures) ∙ at-if1 .if1 .taken in
     held M h .room
 
@@ -57,7 +57,7 @@ cast-t16 c =
     let at-if1 = c .before .before .before .before .before .before .before .before .before in
     let at-is-sound = at-if1 .before in
     let s = at-is-sound .before .before .before .args in
-    let M = channel (s .self) (now (s .mem)) in
+    let M = channel (s .self) (now (s .memory)) in
     let h : sound M ≡ true = sym (at-is-sound .is-sound .ensures) ∙ at-if1 .if1 .taken in
     omega (arith, c .before .before .mark-all .ensures .0, length-kept M (held M h) (of (s .station)), held M h .room, held M h .capacity-most)
 
@@ -75,7 +75,7 @@ returns-2 c =
     let at-is-sound = at-if1 .before in
     let at-slice = at-is-sound .before .before in
     let s = at-slice .before .args in
-    let M = channel (s .self) (now (s .mem)) in
+    let M = channel (s .self) (now (s .memory)) in
     let h : sound M ≡ true = sym (at-is-sound .is-sound .ensures) ∙ at-if1 .if1 .taken in
     let k = held M h in
     let fit : limitFits (s .limit) ≡ true = sym (at-limit-fits .limit-fits .ensures) ∙ at-if3 .if3 .taken in
@@ -96,7 +96,7 @@ returns-3 c =
     let at-if1 = c .before .before .before .before in
     let at-is-sound = at-if1 .before in
     let s = at-is-sound .before .before .before .args in
-    let M = channel (s .self) (now (s .mem)) in
+    let M = channel (s .self) (now (s .memory)) in
     let h : sound M ≡ true = sym (at-is-sound .is-sound .ensures) ∙ at-if1 .if1 .taken in
     let fit : limitFits (s .limit) ≡ false = sym (c .before .before .limit-fits .ensures) ∙ c .before .if3 .left in
     let g = refused-gives M (distance (s .station) (s .d) (s .limit)) 18 (sym (refusal-sound M (distance (s .station) (s .d) (s .limit)) h ∙ rw (lt-leb _ _ (c .before .before .before .if2 .left), fit))) (omega arith) in
@@ -111,7 +111,7 @@ same-length-4 c = search needs
 returns-4 : tie.Need-returns-4
 returns-4 c =
     let s = c .before .before .before .before .before .args in
-    let M = channel (s .self) (now (s .mem)) in
+    let M = channel (s .self) (now (s .memory)) in
     let h : sound M ≡ false = sym (c .before .before .is-sound .ensures) ∙ c .before .if1 .left in
     let g = refused-gives M (distance (s .station) (s .d) (s .limit)) 11 (refusal-unsound M (distance (s .station) (s .d) (s .limit)) h) (omega arith) in
     (c .refuse3 .ensures ∙ g .0, g .1)

@@ -35,7 +35,7 @@ returns c =
     let at-if1 = at-size-fits .before .before in
     let at-m1-fits = at-if1 .before in
     let start = at-m1-fits .before .before in
-    let m = now (start .args .mem) in
+    let m = now (start .args .memory) in
     let f : Parameters.fits 1 (start .args .m1) ≡ true = sym (at-m1-fits .m1-fits .ensures) ∙ at-if1 .if1 .taken in
     let z : sizeFits m ≡ true = sym (at-size-fits .size-fits .ensures) ∙ at-if2 .if2 .taken in
     let l : length m - 0 ≡ length m = omega arith in
@@ -54,7 +54,7 @@ returns-2 c =
     let at-m1-fits = at-if1 .before in
     let start = at-m1-fits .before .before in
     let f : Parameters.fits 1 (start .args .m1) ≡ true = sym (at-m1-fits .m1-fits .ensures) ∙ at-if1 .if1 .taken in
-    let z : sizeFits (now (start .args .mem)) ≡ false = sym (c .before .before .size-fits .ensures) ∙ c .before .if2 .left in
+    let z : sizeFits (now (start .args .memory)) ≡ false = sym (c .before .before .size-fits .ensures) ∙ c .before .if2 .left in
     (c .refuse .ensures ∙ rw (f, z), rw (f, z))
 
 refuse-requires-2 : tie.Need-refuse-requires-2

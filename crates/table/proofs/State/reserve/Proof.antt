@@ -28,7 +28,7 @@ add-t12 c =
     let at-if1 = at-judge-request .before in
     let at-is-sound = at-if1 .before in
     let s = at-is-sound .before .before .before .args in
-    let M = channel (s .self) (now (s .mem)) in
+    let M = channel (s .self) (now (s .memory)) in
     let h : sound M ≡ true = sym (at-is-sound .is-sound .ensures) ∙ at-if1 .if1 .taken in
     let q = s .q in
     let z : firstOf (requestTests q) ≡ 0 = sym (at-judge-request .judge-request .ensures) ∙ c .before .before .before .if2 .taken in
@@ -66,7 +66,7 @@ add-requires c κs =
     let at-if1 = c .before .before .before .before .before .before .before .before .before in
     let at-is-sound = at-if1 .before in
     let s = at-is-sound .before .before .before .args in
-    let M = channel (s .self) (now (s .mem)) in
+    let M = channel (s .self) (now (s .memory)) in
     let h : sound M ≡ true = sym (at-is-sound .is-sound .ensures) ∙ at-if1 .if1 .taken in
     h
 
@@ -81,7 +81,7 @@ returns c =
     let at-if1 = at-judge-request .before in
     let at-is-sound = at-if1 .before in
     let s = at-is-sound .before .before .before .args in
-    let M = channel (s .self) (now (s .mem)) in
+    let M = channel (s .self) (now (s .memory)) in
     let h : sound M ≡ true = sym (at-is-sound .is-sound .ensures) ∙ at-if1 .if1 .taken in
     let q = s .q in
     let z : firstOf (requestTests q) ≡ 0 = sym (at-judge-request .judge-request .ensures) ∙ at-if2 .if2 .taken in
@@ -99,7 +99,7 @@ returns-2 : tie.Need-returns-2
 returns-2 c =
     let at-is-sound = c .before .before .before .before in
     let s = at-is-sound .before .before .before .args in
-    let M = channel (s .self) (now (s .mem)) in
+    let M = channel (s .self) (now (s .memory)) in
     let h : sound M ≡ true = sym (at-is-sound .is-sound .ensures) ∙ c .before .before .before .if1 .taken in
     let e = c .before .before .judge-request .ensures in
     let z : firstOf (requestTests (s .q)) ≡ 0 → ⊥ = λ w. c .before .if2 .left (e ∙ w) in
@@ -115,7 +115,7 @@ same-length-3 c = search needs
 returns-3 : tie.Need-returns-3
 returns-3 c =
     let s = c .before .before .before .before .before .args in
-    let M = channel (s .self) (now (s .mem)) in
+    let M = channel (s .self) (now (s .memory)) in
     let h : sound M ≡ false = sym (c .before .before .is-sound .ensures) ∙ c .before .if1 .left in
     let g = refused-gives M (reserve (s .q)) 11 (refusal-unsound M (reserve (s .q)) h) (omega arith) in
     (c .refuse2 .ensures ∙ g .0, g .1)

@@ -32,7 +32,7 @@ same-length c = search needs
 returns : tie.Need-returns
 returns c =
     let s = c .before .before .before .before .before .before .args in
-    let M = channel (s .self) (now (s .mem)) in
+    let M = channel (s .self) (now (s .memory)) in
     let h : sound M ≡ true = sym (c .before .before .before .is-sound .ensures) ∙ c .before .before .if1 .taken in
     let g = refused-gives M (wipe (s .station)) 8 (sym (refusal-sound M (wipe (s .station)) h ∙ rw (le-leb _ _ (c .before .if2 .taken)))) (omega arith) in
     (c .refuse .ensures ∙ g .0, g .1)
@@ -40,7 +40,7 @@ returns c =
 sweep-requires : tie.Need-sweep-requires
 sweep-requires c κs =
     let s = c .before .before .before .before .before .before .args in
-    let M = channel (s .self) (now (s .mem)) in
+    let M = channel (s .self) (now (s .memory)) in
     let h : sound M ≡ true = sym (c .before .before .before .is-sound .ensures) ∙ c .before .before .if1 .taken in
     h
 
@@ -54,7 +54,7 @@ returns-2 c =
     let at-if1 = at-if2 .before in
     let at-is-sound = at-if1 .before in
     let s = at-is-sound .before .before .before .args in
-    let M = channel (s .self) (now (s .mem)) in
+    let M = channel (s .self) (now (s .memory)) in
     let h : sound M ≡ true = sym (at-is-sound .is-sound .ensures) ∙ at-if1 .if1 .taken in
     let z : 0 ≡ refusal M (wipe (s .station)) = sym (refusal-sound M (wipe (s .station)) h ∙ rw (lt-leb _ _ (at-if2 .if2 .left))) in
     let other : Rec → Bool = λ r. not (of (s .station) r) in
@@ -74,7 +74,7 @@ same-length-3 c = search needs
 returns-3 : tie.Need-returns-3
 returns-3 c =
     let s = c .before .before .before .before .before .args in
-    let M = channel (s .self) (now (s .mem)) in
+    let M = channel (s .self) (now (s .memory)) in
     let h : sound M ≡ false = sym (c .before .before .is-sound .ensures) ∙ c .before .if1 .left in
     let g = refused-gives M (wipe (s .station)) 11 (refusal-unsound M (wipe (s .station)) h) (omega arith) in
     (c .refuse2 .ensures ∙ g .0, g .1)
