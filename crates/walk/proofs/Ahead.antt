@@ -1,4 +1,4 @@
--- Laws of the records ahead of a walk, and of what is reached there. Assumes nothing.
+-- Laws of the records that a walk has, and of those ahead of it. Assumes nothing.
 use Prim.Native.Nat.{ℕ, _+_, _<_, _≤_}
 use mathlib.Core.Path.{_≡_, sym, ap, _∙_}
 use mathlib.Core.Bool.{true, false}
@@ -12,20 +12,21 @@ use Rattle.record.specs.Record.{blank, view}
 use Rattle.sound.specs.Sound.{Channel, sound}
 use Rattle.walk.specs.declared.View.{View}
 use Rattle.walk.specs.declared.Handed.the-variants.{One, NoMore}
-use Rattle.walk.specs.Walk.{started, ahead, reached, stepped, placed}
+use Rattle.walk.specs.Walk.{held, ahead, handsOut, after, stepped, placed}
+use Rattle.walk.specs.Steps.{reached}
 
--- ---- a walk starts
+-- ---- a walk begins
 
 module _ (m : Channel) where
-  -- with all records of a sound table
-  pub started-sound : sound m ≡ true → started m ≡ record { refusal = 0; count = m .count }
-  unfolding started answer
-  started-sound h = rw h
+  -- on a sound table with all of its records
+  pub held-sound : sound m ≡ true → held m ≡ m .count
+  unfolding held answer
+  held-sound h = rw h
 
-  -- with none of any other
-  pub started-unsound : sound m ≡ false → started m ≡ record { refusal = 11; count = 0 }
-  unfolding started answer
-  started-unsound h = rw h
+  -- on any other with none
+  pub held-unsound : sound m ≡ false → held m ≡ 0
+  unfolding held answer
+  held-unsound h = rw h
 
 -- ---- what is reached
 
@@ -33,14 +34,14 @@ module _ (m : Channel) where
 module _ (rs : List Rec) (held count i : ℕ) (room : held ≤ len rs) (same : take held rs ≡ take count rs) where
   -- there is a record at the place
   pub reached-one : i < held → {r : Rec} → r ≡ getD rs i blank → record { handed = One r; next = i + 1 } ≡ reached (drop i (take count rs)) i
-  unfolding reached
+  unfolding reached handsOut after
   reached-one h e =
       let inside : i < len (take held rs) = rw (length-take-le held rs room) h in
       rw (e, ← same, drop-cons (take held rs) i blank inside, getD-take held rs i blank h)
 
   -- there is none
   pub reached-none : held ≤ i → record { handed = NoMore; next = i } ≡ reached (drop i (take count rs)) i
-  unfolding reached
+  unfolding reached handsOut after
   reached-none h =
       let past : len (take held rs) ≤ i = rw (length-take-le held rs room) h in
       rw (← same, drop-of-length-le (take held rs) past)
@@ -50,12 +51,12 @@ module _ (rs : List Rec) (held count i : ℕ) (room : held ≤ len rs) (same : t
 module _ (v : View) where
   -- with a record ahead: it is handed out, and the others are ahead
   pub stepped-one : {r : Rec} {rs : List Rec} → ahead v ≡ r ∷ rs → (stepped v .handed ≡ One r) × (ahead (stepped v .view) ≡ rs)
-  unfolding stepped reached placed ahead
+  unfolding stepped handsOut after placed ahead
   stepped-one e =
       let all = take (v .count) (view (now (v .memory))) in
       (rw e, rw e (sym (drop-drop 1 (v .next) all) ∙ ap (drop 1) e))
 
   -- with none ahead: no more, and none is ahead
   pub stepped-none : ahead v ≡ [] → (stepped v .handed ≡ NoMore) × (ahead (stepped v .view) ≡ [])
-  unfolding stepped reached placed ahead
+  unfolding stepped handsOut after placed ahead
   stepped-none e = (rw e, rw e e)

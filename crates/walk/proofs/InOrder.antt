@@ -16,9 +16,9 @@ use Rattle.table.specs.Memory.{channel}
 use Rattle.walk.specs.declared.View.{View}
 use Rattle.walk.specs.declared.Answer.{Answer}
 use Rattle.walk.specs.declared.Handed.the-variants.{NoMore}
-use Rattle.walk.specs.Walk.{begun, ahead, reached, placed, stepped, recordAt}
+use Rattle.walk.specs.Walk.{begun, ahead, handsOut, placed, stepped, recordAt}
 use Rattle.walk.specs.Claims.{handedOut, each, AllInOrder, NothingUnsound, RecordWalked}
-use Rattle.walk.proofs.Ahead.{started-sound, started-unsound, stepped-one, stepped-none}
+use Rattle.walk.proofs.Ahead.{held-sound, held-unsound, stepped-one, stepped-none}
 
 -- with none ahead a view says "no more" for ever
 handed-none : (n : ℕ) (v : View) → ahead v ≡ [] → handedOut n v ≡ replicate n NoMore
@@ -38,12 +38,12 @@ module _ (s : State) (memory : RefT (List ℕ)) where
   -- all records of a sound table are ahead of the view that a walk begins with
   ahead-sound : sound (channel s (now memory)) ≡ true → ahead (begun s memory .view) ≡ records (channel s (now memory))
   unfolding begun ahead records
-  ahead-sound h = rw (started-sound (channel s (now memory)) h)
+  ahead-sound h = rw (held-sound (channel s (now memory)) h)
 
   -- and none of any other's
   ahead-unsound : sound (channel s (now memory)) ≡ false → ahead (begun s memory .view) ≡ []
   unfolding begun ahead
-  ahead-unsound h = rw (started-unsound (channel s (now memory)) h)
+  ahead-unsound h = rw (held-unsound (channel s (now memory)) h)
 
   -- what a walk hands out once it stands at a place, beside its refusal
   abbrev pub walked : ℕ → Answer
@@ -51,11 +51,11 @@ module _ (s : State) (memory : RefT (List ℕ)) where
 
   -- that is what record_at gives
   pub recordAt-walked : (i : ℕ) → walked i ≡ recordAt (channel s (now memory)) i
-  unfolding begun ahead reached placed stepped recordAt records answer
+  unfolding begun ahead handsOut placed stepped recordAt records answer
   recordAt-walked i =
       by-test (sound (channel s (now memory)))
-      (λ h. rw (started-sound (channel s (now memory)) h, h))
-      (λ h. rw (started-unsound (channel s (now memory)) h, h, drop-nil i))
+      (λ h. rw (held-sound (channel s (now memory)) h, h))
+      (λ h. rw (held-unsound (channel s (now memory)) h, h, drop-nil i))
 
 -- ---- the claims
 
@@ -63,13 +63,13 @@ pub all-in-order : AllInOrder
 unfolding begun
 all-in-order s memory n h =
     let m = channel s (now memory) in
-    (rw (started-sound m h), handed-ahead (records m) n (begun s memory .view) (ahead-sound s memory h))
+    (rw h, handed-ahead (records m) n (begun s memory .view) (ahead-sound s memory h))
 
 pub nothing-unsound : NothingUnsound
 unfolding begun
 nothing-unsound s memory n h =
     let m = channel s (now memory) in
-    (rw (started-unsound m h), handed-none n (begun s memory .view) (ahead-unsound s memory h))
+    (rw h, handed-none n (begun s memory .view) (ahead-unsound s memory h))
 
 pub record-walked : RecordWalked
 record-walked s memory i = ap (λ (a : Answer). a .handed) (sym (recordAt-walked s memory i))

@@ -11,12 +11,11 @@ use Rattle.sound.specs.Sound.{Channel, records, sound}
 use Rattle.table.specs.declared.State.{State}
 use Rattle.table.specs.Memory.{channel}
 use Rattle.walk.specs.declared.View.{View}
+use Rattle.walk.specs.declared.Handed.{Handed}
 use Rattle.walk.specs.declared.Handed.the-variants.{One, NoMore}
 use Rattle.walk.specs.declared.Begun.{Begun}
 use Rattle.walk.specs.declared.Step.{Step}
 use Rattle.walk.specs.declared.Answer.{Answer}
-use Rattle.walk.specs.declared.Start.{Start}
-use Rattle.walk.specs.declared.Reached.{Reached}
 
 -- ---- a walk begins
 
@@ -24,16 +23,16 @@ use Rattle.walk.specs.declared.Reached.{Reached}
 abbrev pub refusal : Channel → ℕ
 refusal m = firstOf ((11, not (sound m)) ∷ [])
 
--- and hands out nothing: it has no record
-unfoldable pub started : Channel → Start
-started m = answer (refusal m) (record { refusal = 0; count = m .count }) (λ n. record { refusal = n; count = 0 })
+-- how many records it has to hand out: none where it is refused
+unfoldable pub held : Channel → ℕ
+held m = answer (refusal m) (m .count) (λ _. 0)
 
--- the view holds the lent table, and starts at its first record
+-- the view holds the lent table, and its next record is the first
 unfoldable pub begun : State → RefT (List ℕ) → Begun
 begun s memory =
     record {
-      refusal = started (channel s (now memory)) .refusal;
-      view = record { memory = memory; next = 0; count = started (channel s (now memory)) .count };
+      refusal = refusal (channel s (now memory));
+      view = record { memory = memory; next = 0; count = held (channel s (now memory)) };
     }
 
 -- ---- and goes on
@@ -42,10 +41,15 @@ begun s memory =
 unfoldable pub ahead : View → List Rec
 ahead v = drop (v .next) (take (v .count) (view (now (v .memory))))
 
--- of the records ahead the first is handed out, and the place after it is the next; where there is none, no more, and the place stays
-unfoldable pub reached : List Rec → ℕ → Reached
-reached [] next = record { handed = NoMore; next = next }
-reached (r ∷ rs) next = record { handed = One r; next = next + 1 }
+-- the first of them is handed out; where there is none, no more
+unfoldable pub handsOut : List Rec → Handed
+handsOut [] = NoMore
+handsOut (r ∷ rs) = One r
+
+-- the next is the one after it; where there is none, it stays
+unfoldable pub after : List Rec → ℕ → ℕ
+after [] next = next
+after (r ∷ rs) next = next + 1
 
 -- the same view with another next record
 unfoldable pub placed : View → ℕ → View
@@ -53,9 +57,9 @@ placed v i = record { memory = v .memory; next = i; count = v .count }
 
 -- what a step hands out, and the view from there on
 unfoldable pub stepped : View → Step
-stepped v = record { handed = reached (ahead v) (v .next) .handed; view = placed v (reached (ahead v) (v .next) .next) }
+stepped v = record { handed = handsOut (ahead v); view = placed v (after (ahead v) (v .next)) }
 
 -- record i of a sound table, or no more
 unfoldable pub recordAt : Channel → ℕ → Answer
 recordAt m i =
-    answer (refusal m) (record { refusal = 0; handed = reached (drop i (records m)) i .handed }) (λ n. record { refusal = n; handed = NoMore })
+    answer (refusal m) (record { refusal = 0; handed = handsOut (drop i (records m)) }) (λ n. record { refusal = n; handed = NoMore })

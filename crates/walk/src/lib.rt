@@ -5,7 +5,8 @@ ghost use mathlib.Core.Path.{_≡_};
 ghost use lib.ListN.{take, drop};
 ghost use Rattle.record.specs.Record.{view};
 ghost use Rattle.table.specs.Memory.{channel};
-ghost use Rattle.walk.specs.Walk.{started, reached, begun, placed, stepped, recordAt};
+ghost use Rattle.walk.specs.Walk.{begun, placed, stepped, recordAt};
+ghost use Rattle.walk.specs.Steps.{started, reached};
 ghost use Rattle.walk.specs.Claims.{Claims};
 
 // The lent memory, the number of the next record, and how many records there are.

@@ -47,7 +47,8 @@ use Rattle.table.proofs.State.Laws as S′
 use Rattle.walk.specs.declared.View.{View}
 use Rattle.walk.specs.declared.Begun.{Begun}
 use Rattle.walk.specs.declared.Start.{Start}
-use Rattle.walk.specs.Walk.{started, begun}
+use Rattle.walk.specs.Walk.{begun}
+use Rattle.walk.specs.Steps.{started}
 use Rattle.walk.proofs.View as T
 use Rattle.walk.proofs.View.Laws as T′
 use Rattle.walk.proofs.Begun as Z
@@ -81,7 +82,7 @@ made b r = record { refusal = r .refusal; view = viewed b (r .count) }
 
 -- and of the one that `started` promises
 is-begun : (s : State) (b : RefT (List ℕ)) (r : Start) → r ≡ started (channel s (now b)) → made b r ≡ begun s b
-unfolding begun
+unfolding begun started
 is-begun s b r e = ap (made b) e
 
 module _ {M : Type 1} (𝓤 : URA M) (H : Heap 𝓤) (A : Atoms 𝓤) (W : Given 𝓤 H A) (mem : Memory → SProp 𝓤) (run : Routine → Fun 𝓤) (κ : Lft) (q : Share) (s : State) (b : RefT (List ℕ)) where

@@ -44,7 +44,8 @@ use denote.Triple.Walked.{says, Stays, stay-none, walkOf, goes-none, Walks, ends
 use denote.Exit.{yes}
 use denote.Triple.Clauses.{ensured, lasts}
 use Rattle.record.specs.Record.{view}
-use Rattle.walk.specs.Walk.{ahead, reached, placed, stepped}
+use Rattle.walk.specs.Walk.{ahead, placed, stepped}
+use Rattle.walk.specs.Steps.{reached}
 use Rattle.walk.specs.declared.View.{View}
 use Rattle.walk.specs.declared.Step.{Step}
 use Rattle.walk.specs.declared.Reached.{Reached}
@@ -91,7 +92,7 @@ made d r = record { handed = r .handed; view = moved d (r .next) }
 
 -- it is the step promised
 made-stepped : (d : View) (r : Reached) → r ≡ found d → made d r ≡ stepped d
-unfolding stepped ahead placed
+unfolding stepped ahead placed reached
 made-stepped d r e = ap (made d) e
 
 module _ {M : Type 1} (𝓤 : URA M) (H : Heap 𝓤) (A : Atoms 𝓤) (W : Given 𝓤 H A) (mem : Memory → SProp 𝓤) (run : Routine → Fun 𝓤) (κ : Lft) (q : Share) (d : View) where
