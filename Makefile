@@ -1,4 +1,4 @@
-# make demo   a C host's day, and the listing of the sample bursts
+# make demo   a C host's day, with its tables and its tally, and the listing of the sample bursts
 # make test   everything that must hold, as the gate runs it; its last line is 'N passed, M failed'
 # make bench  the calls beside a plain Rust implementation, and the listing beside a plain and a tuned program, each in one run
 

@@ -3,7 +3,8 @@
  *
  *     gcc -Iinclude examples/host.c target/staticlib/libgemthatch.a -o host && ./host
  *
- * It says what it does line by line. Its exit status is not 0 where something came out otherwise than this file says.
+ * It says what it does line by line, shows its tables by a walk, and keeps a tally of its calls. Its exit status is not 0 where something
+ * came out otherwise than this file says.
  */
 #include <stdio.h>
 #include <string.h>
@@ -19,6 +20,10 @@ static const double limit = GEMTHATCH_LIMIT_DEFAULT;
 /* The one list that the worker lends to every channel's searches. */
 static uint8_t scratch[GEMTHATCH_LIST_MAX];
 
+/* The day's tally; and to hold it against, how many calls were counted and how many refusals this file calls for. */
+static gemthatch_tally day = { 0, 0 };
+static uint32_t calls = 0, called_for = 0;
+
 static int surprises = 0;
 
 /* What this file says must come out. */
@@ -28,6 +33,27 @@ static void expect(int so, const char *what)
         printf("  NOT SO: %s\n", what);
         surprises = surprises + 1;
     }
+}
+
+/* A refusal that this file calls for. */
+static void expect_refused(uint32_t answer, uint32_t refusal, const char *why)
+{
+    expect(gemthatch_refusal_of(answer) == refusal, why);
+    called_for = called_for + 1;
+}
+
+/* Counts a call by its bare refusal. */
+static void count_call(uint32_t refusal)
+{
+    calls = calls + 1;
+    gemthatch_count(&day, refusal);
+}
+
+/* Counts a call that returns a number, and hands the number on. */
+static uint32_t counted(uint32_t answer)
+{
+    calls = calls + 1;
+    return gemthatch_counted(&day, answer);
 }
 
 /* Says how a call went, its number as so many of something (or nothing), and hands the answer on. */
@@ -47,7 +73,7 @@ static uint32_t told(const char *call, uint32_t answer, const char *of_what)
 static uint32_t told_slot(const gemthatch_channel *channel, uint32_t slot)
 {
     static const char *const states[] = { "free", "reusable", "taken" };
-    const uint32_t answer = gemthatch_channel_slot_state(channel, slot);
+    const uint32_t answer = counted(gemthatch_channel_slot_state(channel, slot));
     const uint32_t refusal = gemthatch_refusal_of(answer);
     printf("  slot %-29u %s\n", (unsigned)slot, refusal == GEMTHATCH_ACCEPTED ? states[answer] : gemthatch_refusal_text(refusal));
     return answer;
@@ -62,23 +88,46 @@ static int all_zero(const uint8_t *octets, size_t count)
     return 1;
 }
 
-/* Whether one of the records that lie in the memory is the station's: its first four octets, little-endian. */
-static int names_station(const gemthatch_channel *channel, uint32_t station)
-{
-    uint32_t i;
-    for (i = 0; i < channel->count; i++)
-        if (gemthatch_list_slot(channel->memory + i * GEMTHATCH_RECORD_OCTETS, 0) == station)
-            return 1;
-    return 0;
-}
-
+/* A table's records by a walk, which counts as one call. */
 static void show(const char *name, const gemthatch_channel *channel)
 {
-    size_t i;
+    gemthatch_place place;
+    uint32_t i;
     printf("  %s: M1 %u, now %u, %u records\n", name, (unsigned)channel->m1, (unsigned)channel->now, (unsigned)channel->count);
+    for (i = 0; (place = gemthatch_channel_record_at(channel, i)).handed; i++)
+        printf("    station %u, first slot %u, rate %u, superframes %u, length %u, %s\n", (unsigned)place.record.station,
+               (unsigned)place.record.first, (unsigned)place.record.rate, (unsigned)place.record.superframes,
+               (unsigned)place.record.length, place.record.far ? "far" : "near");
+    count_call(place.refusal);
+    expect(place.refusal == GEMTHATCH_ACCEPTED && i == channel->count, "a walk hands out every record, and then no more");
+}
+
+/* The octets that the records lie in, a record to a line. */
+static void show_octets(const gemthatch_channel *channel)
+{
+    size_t i;
     for (i = 0; i < channel->octets; i++)
         printf("%s%02x%s", i % GEMTHATCH_RECORD_OCTETS == 0 ? "    " : " ", channel->memory[i],
                i % GEMTHATCH_RECORD_OCTETS == GEMTHATCH_RECORD_OCTETS - 1 ? "\n" : "");
+}
+
+/* Whether a place has a station's record as the bursts below ask for it: rate 4, blocks of 5 slots. */
+static int holds(gemthatch_place place, uint32_t station, uint32_t first, uint32_t superframes, uint32_t far)
+{
+    const gemthatch_record record = place.record;
+    return place.handed == 1u && record.station == station && record.first == first && record.rate == 4u &&
+           record.superframes == superframes && record.length == 5u && record.far == far;
+}
+
+/* Whether no record is the station's. A table that is refused hands out none, and says nothing about it. */
+static int is_without(const gemthatch_channel *channel, uint32_t station)
+{
+    gemthatch_place place;
+    uint32_t i;
+    for (i = 0; (place = gemthatch_channel_record_at(channel, i)).handed; i++)
+        if (place.record.station == station)
+            return 0;
+    return place.refusal == GEMTHATCH_ACCEPTED;
 }
 
 /* A burst comes in: its nine octets are read, and what they announce is reserved for the station that sent it. */
@@ -86,27 +135,28 @@ static uint32_t take_burst(gemthatch_channel *channel, uint32_t station, const u
 {
     const gemthatch_reading read = gemthatch_read(octets, GEMTHATCH_BURST_OCTETS);
     uint32_t rate;
+    count_call(read.refusal);
     if (read.refusal != GEMTHATCH_ACCEPTED)
         return GEMTHATCH_REFUSED + read.refusal;
-    rate = gemthatch_rate(rates, sizeof rates, read.block.br);
+    rate = counted(gemthatch_rate(rates, sizeof rates, read.block.br));
     if (rate >= GEMTHATCH_REFUSED)
         return rate;
-    return gemthatch_channel_reserve(channel, station, rate, superframes, read.block.bs, read.block.blg + 1u, GEMTHATCH_KIND_UNKNOWN, 0.0,
-                                     0.0, limit);
+    return counted(gemthatch_channel_reserve(channel, station, rate, superframes, read.block.bs, read.block.blg + 1u,
+                                             GEMTHATCH_KIND_UNKNOWN, 0.0, 0.0, limit));
 }
 
 /* One slot, bs slots from now. */
 static uint32_t reserve_one(gemthatch_channel *channel, uint32_t station, uint32_t bs)
 {
-    return gemthatch_channel_reserve(channel, station, 1u, 1u, bs, 1u, GEMTHATCH_KIND_UNKNOWN, 0.0, 0.0, limit);
+    return counted(gemthatch_channel_reserve(channel, station, 1u, 1u, bs, 1u, GEMTHATCH_KIND_UNKNOWN, 0.0, 0.0, limit));
 }
 
 /* Finds a place for a block of our own, picks one by a random number, and says which. The list is wiped by the next search. */
 static uint32_t place_block(const char *name, const gemthatch_channel *channel, uint32_t lo, uint32_t hi, uint32_t length, uint32_t random)
 {
     uint32_t i, place, start;
-    const uint32_t found =
-        told("search for 3 starts", gemthatch_channel_search(channel, lo, hi, length, 3u, scratch, sizeof scratch), "found");
+    const uint32_t found = counted(gemthatch_channel_search(channel, lo, hi, length, 3u, scratch, sizeof scratch));
+    (void)told("search for 3 starts", found, "found");
     if (found >= GEMTHATCH_REFUSED) {
         expect(all_zero(scratch, sizeof scratch), "a refused search leaves an empty list");
         return found;
@@ -114,7 +164,7 @@ static uint32_t place_block(const char *name, const gemthatch_channel *channel, 
     printf("  %s may start at", name);
     for (i = 0; i < found; i++)
         printf(" %u", (unsigned)gemthatch_list_slot(scratch, i));
-    place = gemthatch_pick(found, random);
+    place = counted(gemthatch_pick(found, random));
     start = gemthatch_list_slot(scratch, place);
     printf(", and takes %u\n", (unsigned)start);
     expect(all_zero(scratch + found * GEMTHATCH_LIST_SLOT_OCTETS, sizeof scratch - found * GEMTHATCH_LIST_SLOT_OCTETS),
@@ -135,29 +185,29 @@ int main(void)
     memset(memories, 0xAA, sizeof memories); /* what the worker had there before */
 
     printf("Morning: the channels open, each with room for %u records\n", (unsigned)RECORDS);
-    (void)told("Alder, M1 4500", gemthatch_channel_open(&alder, memories[0], OCTETS, GEMTHATCH_M1_DEFAULT), NULL);
-    (void)told("Birch, M1 4500", gemthatch_channel_open(&birch, memories[1], OCTETS, GEMTHATCH_M1_DEFAULT), NULL);
-    answer = told("Cedar, M1 4510", gemthatch_channel_open(&cedar, memories[2], OCTETS, 4510u), NULL);
-    expect(gemthatch_refusal_of(answer) == GEMTHATCH_REFUSED_FIGURE, "M1 goes by steps of 60");
-    (void)told("Cedar, M1 60", gemthatch_channel_open(&cedar, memories[2], OCTETS, GEMTHATCH_M1_MIN), NULL);
+    (void)told("Alder, M1 4500", counted(gemthatch_channel_open(&alder, memories[0], OCTETS, GEMTHATCH_M1_DEFAULT)), NULL);
+    (void)told("Birch, M1 4500", counted(gemthatch_channel_open(&birch, memories[1], OCTETS, GEMTHATCH_M1_DEFAULT)), NULL);
+    answer = told("Cedar, M1 4510", counted(gemthatch_channel_open(&cedar, memories[2], OCTETS, 4510u)), NULL);
+    expect_refused(answer, GEMTHATCH_REFUSED_FIGURE, "M1 goes by steps of 60");
+    (void)told("Cedar, M1 60", counted(gemthatch_channel_open(&cedar, memories[2], OCTETS, GEMTHATCH_M1_MIN)), NULL);
     /* The twin sees Birch's day without the tenant, to hold Birch against at the end. */
-    (void)told("Birch's twin, M1 4500", gemthatch_channel_open(&twin, memories[3], OCTETS, GEMTHATCH_M1_DEFAULT), NULL);
+    (void)told("Birch's twin, M1 4500", counted(gemthatch_channel_open(&twin, memories[3], OCTETS, GEMTHATCH_M1_DEFAULT)), NULL);
     expect(all_zero(memories[0], sizeof memories), "an opened table is all zero");
 
     printf("\nSlot 100: bursts come in\n");
-    (void)told("Alder's clock", gemthatch_channel_clock(&alder, 100u), "records over");
-    (void)told("Birch's clock", gemthatch_channel_clock(&birch, 100u), "records over");
-    (void)told("the twin's clock", gemthatch_channel_clock(&twin, 100u), "records over");
+    (void)told("Alder's clock", counted(gemthatch_channel_clock(&alder, 100u)), "records over");
+    (void)told("Birch's clock", counted(gemthatch_channel_clock(&birch, 100u)), "records over");
+    (void)told("the twin's clock", counted(gemthatch_channel_clock(&twin, 100u)), "records over");
     (void)told("Alder: the visitor", take_burst(&alder, visitor, burst, 2u), NULL);
     (void)told("Birch: the tenant", take_burst(&birch, tenant, burst, 3u), NULL);
     (void)told("Birch: the resident", take_burst(&birch, resident, burst, 2u), NULL);
     (void)told("the twin: the resident", take_burst(&twin, resident, burst, 2u), NULL);
     answer = told("Birch: the resident, once more", take_burst(&birch, resident, burst, 2u), NULL);
-    expect(gemthatch_refusal_of(answer) == GEMTHATCH_REFUSED_HELD, "it is held already");
+    expect_refused(answer, GEMTHATCH_REFUSED_HELD, "it is held already");
     answer = told("the twin: the same", take_burst(&twin, resident, burst, 2u), NULL);
-    expect(gemthatch_refusal_of(answer) == GEMTHATCH_REFUSED_HELD, "and so at the twin");
+    expect_refused(answer, GEMTHATCH_REFUSED_HELD, "and so at the twin");
     answer = told("Birch: a burst with bs 1", take_burst(&birch, visitor, noise, 2u), NULL);
-    expect(gemthatch_refusal_of(answer) == GEMTHATCH_REFUSED_BS, "bs 1 is refused");
+    expect_refused(answer, GEMTHATCH_REFUSED_BS, "bs 1 is refused");
 
     printf("\nAlder: the visitor has slots 105..109, and so every 1125 slots on\n");
     expect(told_slot(&alder, 104u) == GEMTHATCH_FREE, "no block has 104");
@@ -166,7 +216,7 @@ int main(void)
     expect(answer == 110u, "110 and 111 are free, and 4710 mod 2 is 0");
 
     printf("\nThe visitor is 200 miles out: its slots may be used again, after the free ones\n");
-    answer = gemthatch_channel_distance(&alder, visitor, GEMTHATCH_KIND_RANGE, 200.0, 0.0, limit);
+    answer = counted(gemthatch_channel_distance(&alder, visitor, GEMTHATCH_KIND_RANGE, 200.0, 0.0, limit));
     (void)told("Alder: the visitor's distance", answer, "records");
     expect(answer == 1u, "it has one record");
     expect(told_slot(&alder, 105u) == GEMTHATCH_REUSABLE, "all who hold 105 are far");
@@ -175,45 +225,56 @@ int main(void)
 
     printf("\nBirch gets the same scratch list, and finds nothing in its range\n");
     answer = place_block("Birch", &birch, 105u, 105u, 2u, 4712u);
-    expect(gemthatch_refusal_of(answer) == GEMTHATCH_REFUSED_NONE, "105 is taken at Birch, and of Alder's answer no trace is left");
+    expect_refused(answer, GEMTHATCH_REFUSED_NONE, "105 is taken at Birch, and of Alder's answer no trace is left");
 
     printf("\nCedar fills up\n");
     for (i = 0; i < RECORDS; i++)
         (void)told("a station reserves one slot", reserve_one(&cedar, i, 20u + i), NULL);
     answer = told("and one more", reserve_one(&cedar, 9u, 30u), NULL);
-    expect(gemthatch_refusal_of(answer) == GEMTHATCH_REFUSED_FULL, "there is no room");
-    answer = told("Cedar's clock, slot 22", gemthatch_channel_clock(&cedar, 22u), "records over");
+    expect_refused(answer, GEMTHATCH_REFUSED_FULL, "there is no room");
+    answer = told("Cedar's clock, slot 22", counted(gemthatch_channel_clock(&cedar, 22u)), "records over");
     expect(answer == 2u, "those at 20 and 21 are over");
+    show("Cedar", &cedar);
+    expect(gemthatch_channel_record_at(&cedar, 0u).record.first == 22u && gemthatch_channel_record_at(&cedar, 1u).record.first == 23u,
+           "those at 22 and 23 moved up, in their order");
 
     printf("\nLater: the tenant reserves again, and time goes on\n");
-    (void)told("Birch's clock, slot 5000", gemthatch_channel_clock(&birch, 5000u), "records over");
-    (void)told("the twin's clock, slot 5000", gemthatch_channel_clock(&twin, 5000u), "records over");
+    (void)told("Birch's clock, slot 5000", counted(gemthatch_channel_clock(&birch, 5000u)), "records over");
+    (void)told("the twin's clock, slot 5000", counted(gemthatch_channel_clock(&twin, 5000u)), "records over");
     (void)told("Birch: the tenant", take_burst(&birch, tenant, burst, 1u), NULL);
-    answer = gemthatch_channel_distance(&birch, tenant, GEMTHATCH_KIND_OFFSET, 90.0, 120.0, limit);
+    answer = counted(gemthatch_channel_distance(&birch, tenant, GEMTHATCH_KIND_OFFSET, 90.0, 120.0, limit));
     (void)told("Birch: the tenant's distance", answer, "records");
     expect(answer == 2u, "it has two records");
     (void)told("Birch: the visitor", take_burst(&birch, visitor, burst, 3u), NULL);
     (void)told("the twin: the visitor", take_burst(&twin, visitor, burst, 3u), NULL);
-    (void)told("Birch's clock, slot 9000", gemthatch_channel_clock(&birch, 9000u), "records over");
-    (void)told("the twin's clock, slot 9000", gemthatch_channel_clock(&twin, 9000u), "records over");
+    (void)told("Birch's clock, slot 9000", counted(gemthatch_channel_clock(&birch, 9000u)), "records over");
+    (void)told("the twin's clock, slot 9000", counted(gemthatch_channel_clock(&twin, 9000u)), "records over");
     show("Birch", &birch);
+    expect(holds(gemthatch_channel_record_at(&birch, 0u), tenant, 105u, 3u, 1u), "the tenant's record comes first, and is far");
+    expect(holds(gemthatch_channel_record_at(&birch, 1u), visitor, 5005u, 3u, 0u), "then the visitor's, which is near");
+    expect(gemthatch_channel_record_at(&birch, 2u).handed == 0u, "and then no more");
 
     printf("\nMonth's end: the tenant leaves Birch\n");
-    answer = told("Birch: the tenant is wiped", gemthatch_channel_wipe(&birch, tenant), "records removed");
+    answer = told("Birch: the tenant is wiped", counted(gemthatch_channel_wipe(&birch, tenant)), "records removed");
     expect(answer == 1u, "its other one was over");
     show("Birch", &birch);
+    show_octets(&birch);
     show("its twin, which never saw the tenant", &twin);
-    expect(!names_station(&birch, tenant), "no record is the tenant's");
+    show_octets(&twin);
+    expect(is_without(&birch, tenant), "no record is the tenant's");
     expect(birch.now == twin.now && birch.count == twin.count, "clock and count are those without the tenant");
     expect(memcmp(memories[1], memories[3], OCTETS) == 0, "the octets are those without the tenant");
-    answer = gemthatch_channel_search(&birch, 9000u, 9100u, 5u, GEMTHATCH_WANTED_MAX, scratch, sizeof scratch - 1u);
+    answer = counted(gemthatch_channel_search(&birch, 9000u, 9100u, 5u, GEMTHATCH_WANTED_MAX, scratch, sizeof scratch - 1u));
     (void)told("a search with a list too short", answer, "found");
-    expect(gemthatch_refusal_of(answer) == GEMTHATCH_REFUSED_SIZE, "fifteen places and three octets are too few");
+    expect_refused(answer, GEMTHATCH_REFUSED_SIZE, "fifteen places and three octets are too few");
     expect(all_zero(scratch, sizeof scratch), "the scratch list holds no slot of anybody");
 
+    expect(day.refused == called_for, "the calls refused are those that had to be");
+    expect(day.accepted == calls - called_for, "and all others are accepted");
     if (surprises == 0)
         printf("\nBirch and its twin are the same in every octet, and the scratch list is empty.\n");
     else
         printf("\n%d things came out otherwise.\n", surprises);
+    printf("%u calls accepted, %u refused\n", (unsigned)day.accepted, (unsigned)day.refused);
     return surprises == 0 ? 0 : 1;
 }

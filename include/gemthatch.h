@@ -8,7 +8,8 @@
  * WHAT IT DOES
  * A superframe block reservation is nine octets of a burst: read and write them. A channel's reservations stand in a table of records in
  * memory that you lend. A slot is free, reusable or taken, as the stored reservations say. A search lists where a block of slots may be
- * placed, and a pick chooses one. A station that leaves is wiped without trace.
+ * placed, and a pick chooses one. A station that leaves is wiped without trace. A walk hands out a table's records one by one, and a tally
+ * counts accepted and refused calls.
  *
  * WHAT EVERY CALL PROMISES
  * Every call takes any numbers and any octets, and ends. Bad input gets a numbered refusal, the first that applies in the order given with
@@ -18,11 +19,12 @@
  * WHO OWNS WHAT
  * All memory is yours. The library allocates nothing, keeps no pointer after a call, and has no state of its own: what it knows is what you
  * hand it. Calls on different memories may run at the same time in different threads. Of calls that are given the same memory, those that
- * only look (slot state, search) may run at the same time; any other must run alone.
+ * only look (slot state, search, record at) may run at the same time; any other must run alone. Counting changes the tally: calls that are
+ * given the same tally must run one at a time.
  *
  * What a call is lent is a pointer and the number of octets behind it. No alignment is asked. NULL is allowed where that number is 0. A
- * search's list must not overlap the table's memory. These, and that so many octets are really there, are the only things that the library
- * can't test for you.
+ * search's list must not overlap the table's memory. A tally is lent by its pointer alone: it must point to a tally, aligned as any struct
+ * of C, and not be NULL. These, and that so many octets are really there, are the only things that the library can't test for you.
  *
  * The table's memory and the state go together: hand back the memory as the last call left it, with the state that its answer gives.
  * `gemthatch_channel`, at the end of this file, does that for you.
@@ -69,6 +71,7 @@ extern "C" {
 #define GEMTHATCH_BS_MAX 255u
 #define GEMTHATCH_MILES_MAX 4096.0          /* nautical miles that are told apart from unknown, and the highest reuse limit */
 #define GEMTHATCH_LIMIT_DEFAULT 150.0       /* the manual's default reuse limit (Q2a) */
+#define GEMTHATCH_TALLY_MAX 4294967295u     /* where each count of a tally stops */
 
 /* ---- answers and refusals ----------------------------------------------------------------------------------------------------------- */
 
@@ -272,6 +275,64 @@ static inline uint32_t gemthatch_list_slot(const uint8_t *list, size_t place)
  */
 GEMTHATCH_MUST_USE uint32_t gemthatch_pick(uint32_t n, uint32_t r);
 
+/* ---- the walk ----------------------------------------------------------------------------------------------------------------------- */
+
+/* A record of the table. */
+typedef struct gemthatch_record {
+    uint32_t station;    /* address, below 2^27 */
+    uint32_t first;      /* first slot, at most 1,000,000,255 */
+    uint8_t rate;        /* blocks in a superframe, 1..60 */
+    uint8_t superframes; /* 1..3 */
+    uint8_t length;      /* slots in a block, 1..32 */
+    uint8_t far;         /* 1 where the station is far, otherwise 0 */
+} gemthatch_record;
+
+/* What a walk hands out at a place. */
+typedef struct gemthatch_place {
+    uint32_t refusal;        /* bare, 0 where it is accepted */
+    uint32_t handed;         /* 1 where there is a record; 0 where there is no more, and where it is refused */
+    gemthatch_record record; /* all 0 where there is none */
+} gemthatch_place;
+
+/*
+ * Hands out record i, from 0, in the order of the table. From count on there is no more, however large i is. Nothing is changed.
+ *
+ *     for (i = 0; (place = gemthatch_channel_record_at(&channel, i)).handed; i++)
+ *         printf("%u\n", (unsigned)place.record.station);
+ *
+ * After the loop place.refusal says why it ended: 0, all records were handed out; 11, the table isn't sound and none was. A call that
+ * removes records moves the later ones to lower places: walk again then. Each call tests the table whole first, as every table call does.
+ * Refused: 11.
+ */
+GEMTHATCH_MUST_USE gemthatch_place gemthatch_record_at(const uint8_t *memory, size_t octets, uint32_t m1, uint32_t now, uint32_t count,
+                                                       uint32_t i);
+
+/* ---- the tally ---------------------------------------------------------------------------------------------------------------------- */
+
+/* How many of the calls that you had counted were accepted, and how many refused. Start it with { 0, 0 }. */
+typedef struct gemthatch_tally {
+    uint32_t accepted;
+    uint32_t refused;
+} gemthatch_tally;
+
+/*
+ * Counts a call by its bare refusal, as reading, writing and the walk give it: 0 is accepted, any other number refused. That count goes up
+ * by 1, or stays where it is GEMTHATCH_TALLY_MAX; the other stays. An answer that is a plain number would be taken for a refusal: those go
+ * to gemthatch_counted.
+ * Returns nothing. Never refused.
+ */
+void gemthatch_count(gemthatch_tally *tally, uint32_t refusal);
+
+/*
+ * Counts an answer by its refusal and hands it on, so it can stand around any call that returns a plain uint32_t:
+ * `answer = gemthatch_counted(&tally, gemthatch_channel_clock(&channel, slot));`
+ */
+GEMTHATCH_MUST_USE static inline uint32_t gemthatch_counted(gemthatch_tally *tally, uint32_t answer)
+{
+    gemthatch_count(tally, gemthatch_refusal_of(answer));
+    return answer;
+}
+
 /* ---- a channel: a table with its state ---------------------------------------------------------------------------------------------- */
 
 /*
@@ -343,6 +404,11 @@ GEMTHATCH_MUST_USE static inline uint32_t gemthatch_channel_search(const gemthat
 {
     return gemthatch_search(channel->memory, channel->octets, channel->m1, channel->now, channel->count, lo, hi, length, wanted, list,
                             list_octets);
+}
+
+GEMTHATCH_MUST_USE static inline gemthatch_place gemthatch_channel_record_at(const gemthatch_channel *channel, uint32_t i)
+{
+    return gemthatch_record_at(channel->memory, channel->octets, channel->m1, channel->now, channel->count, i);
 }
 
 #ifdef __cplusplus

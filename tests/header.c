@@ -1,5 +1,7 @@
-/* What the header says in numbers is what the archive does: both sides of each limit, each refusal by its name, and the channel's state. */
+/* What the header says in numbers is what the archive does: both sides of each limit, each refusal by its name, the channel's state, the
+   structs' places. */
 #include <math.h>
+#include <stddef.h>
 #include <stdio.h>
 #include <string.h>
 
@@ -147,6 +149,91 @@ static void searches(void)
     REFUSES(gemthatch_pick(GEMTHATCH_WANTED_MAX + 1u, 17u), WANTED);
 }
 
+/* There is no record at a place: the refusal, nothing handed out, and a record of zeros. */
+static int none_at(uint32_t i, uint32_t refusal)
+{
+    static const gemthatch_record zeros = { 0, 0, 0, 0, 0, 0 };
+    const gemthatch_place place = gemthatch_channel_record_at(&channel, i);
+    return place.refusal == refusal && place.handed == 0u && memcmp(&place.record, &zeros, sizeof zeros) == 0;
+}
+
+static int record_at(uint32_t i, gemthatch_record record)
+{
+    const gemthatch_place place = gemthatch_channel_record_at(&channel, i);
+    return place.refusal == 0u && place.handed == 1u && memcmp(&place.record, &record, sizeof record) == 0;
+}
+
+static void walks(void)
+{
+    const gemthatch_record largest = { GEMTHATCH_STATION_MAX, GEMTHATCH_SLOT_MAX + GEMTHATCH_BS_MAX, GEMTHATCH_RATE_MAX,
+                                       GEMTHATCH_SUPERFRAMES_MAX, GEMTHATCH_LENGTH_MAX, 0 };
+    const gemthatch_record other = { 0x04030201u, GEMTHATCH_SLOT_MAX + GEMTHATCH_BS_MIN, 4, 3, 2, 1 };
+    gemthatch_place place;
+    uint32_t i;
+    /* A record in C lies as in the table, and no struct has a gap. */
+    check(sizeof(gemthatch_record) == GEMTHATCH_RECORD_OCTETS && offsetof(gemthatch_record, station) == 0u, __LINE__);
+    check(offsetof(gemthatch_record, first) == 4u && offsetof(gemthatch_record, rate) == 8u, __LINE__);
+    check(offsetof(gemthatch_record, superframes) == 9u && offsetof(gemthatch_record, length) == 10u, __LINE__);
+    check(offsetof(gemthatch_record, far) == 11u, __LINE__);
+    check(sizeof(gemthatch_place) == 20u && offsetof(gemthatch_place, refusal) == 0u, __LINE__);
+    check(offsetof(gemthatch_place, handed) == 4u && offsetof(gemthatch_place, record) == 8u, __LINE__);
+    open_channel(3u);
+    check(none_at(0u, 0u) && none_at(UINT32_MAX, 0u), __LINE__);
+    IS(gemthatch_channel_clock(&channel, GEMTHATCH_SLOT_MAX), 0u);
+    IS(reserve_largest(0.0), 0u);
+    IS(gemthatch_channel_reserve(&channel, other.station, other.rate, other.superframes, GEMTHATCH_BS_MIN, other.length,
+                                 GEMTHATCH_KIND_RANGE, 0.0, 0.0, 0.0),
+       0u);
+    check(record_at(0u, largest) && record_at(channel.count - 1u, other), __LINE__);
+    check(none_at(channel.count, 0u) && none_at(channel.count + 1u, 0u), __LINE__);
+    check(none_at(0x80000000u, 0u) && none_at(UINT32_MAX, 0u), __LINE__);
+    for (i = 0; (place = gemthatch_channel_record_at(&channel, i)).handed; i++)
+        check(place.record.station == (i == 0u ? largest.station : other.station), __LINE__);
+    check(i == 2u && place.refusal == 0u, __LINE__);
+    /* Not sound: an octet behind the records. Nothing is handed out, at no place. */
+    memory[3u * GEMTHATCH_RECORD_OCTETS - 1u] = 1;
+    for (i = 0; i < 5u; i++)
+        check(none_at(i, GEMTHATCH_REFUSED_NOT_SOUND), __LINE__);
+    check(none_at(UINT32_MAX, GEMTHATCH_REFUSED_NOT_SOUND), __LINE__);
+    REFUSES(gemthatch_channel_open(&channel, memory, 0u, GEMTHATCH_M1_DEFAULT), SIZE);
+    check(none_at(0u, GEMTHATCH_REFUSED_NOT_SOUND), __LINE__);
+    open_channel(GEMTHATCH_RECORDS_MAX);
+    for (i = 0; i < GEMTHATCH_RECORDS_MAX; i++)
+        IS(reserve(i, 1u, 1u, GEMTHATCH_BS_MIN, 1u, 0.0), 0u);
+    IS(gemthatch_channel_record_at(&channel, GEMTHATCH_RECORDS_MAX - 1u).record.station, GEMTHATCH_RECORDS_MAX - 1u);
+    check(none_at(GEMTHATCH_RECORDS_MAX, 0u), __LINE__);
+}
+
+/* What a tally is after an answer. */
+static int counts(gemthatch_tally tally, uint32_t answer, uint32_t accepted, uint32_t refused)
+{
+    return gemthatch_counted(&tally, answer) == answer && tally.accepted == accepted && tally.refused == refused;
+}
+
+static void tallies(void)
+{
+    const uint32_t most = GEMTHATCH_TALLY_MAX;
+    const gemthatch_tally none = { 0, 0 }, nearly = { GEMTHATCH_TALLY_MAX - 1u, GEMTHATCH_TALLY_MAX - 1u };
+    const gemthatch_tally full = { GEMTHATCH_TALLY_MAX, GEMTHATCH_TALLY_MAX };
+    /* The one in the middle is counted in. */
+    gemthatch_tally row[3] = { { 1, 2 }, { 7, 9 }, { 3, 4 } };
+    check(sizeof(gemthatch_tally) == 8u && offsetof(gemthatch_tally, refused) == 4u && most == UINT32_MAX, __LINE__);
+    gemthatch_count(&row[1], GEMTHATCH_ACCEPTED);
+    check(row[1].accepted == 8u && row[1].refused == 9u, __LINE__);
+    gemthatch_count(&row[1], GEMTHATCH_REFUSED_SIZE);
+    gemthatch_count(&row[1], 256u);
+    gemthatch_count(&row[1], GEMTHATCH_REFUSED);
+    gemthatch_count(&row[1], UINT32_MAX);
+    check(row[1].accepted == 8u && row[1].refused == 13u, __LINE__);
+    check(row[0].accepted == 1u && row[0].refused == 2u && row[2].accepted == 3u && row[2].refused == 4u, __LINE__);
+    /* By an answer: a number, whatever it is, is accepted. */
+    check(counts(none, 0u, 1u, 0u) && counts(none, 1u, 1u, 0u) && counts(none, GEMTHATCH_REFUSED - 1u, 1u, 0u), __LINE__);
+    check(counts(none, GEMTHATCH_REFUSED + GEMTHATCH_REFUSED_SIZE, 0u, 1u), __LINE__);
+    check(counts(none, GEMTHATCH_REFUSED + GEMTHATCH_REFUSED_PARAMETER, 0u, 1u), __LINE__);
+    check(counts(nearly, 0u, most, most - 1u) && counts(nearly, GEMTHATCH_REFUSED + 1u, most - 1u, most), __LINE__);
+    check(counts(full, 0u, most, most) && counts(full, GEMTHATCH_REFUSED + 1u, most, most), __LINE__);
+}
+
 int main(void)
 {
     uint32_t refusal;
@@ -154,6 +241,8 @@ int main(void)
     parameters();
     tables();
     searches();
+    walks();
+    tallies();
     /* Every refusal has a text of its own. */
     for (refusal = 0; refusal <= 22u; refusal++)
         check(strcmp(gemthatch_refusal_text(refusal), gemthatch_refusal_text(refusal + 1u)) != 0, __LINE__);

@@ -3,10 +3,11 @@
 
 use std::ptr;
 
-use crate::gemthatch::*;
+use crate::gemthatch::{self, *};
 use crate::paper::codec::{Fields, GROUP};
 use crate::paper::search::Wish;
-use crate::paper::table::{Measure, Reservation, State};
+use crate::paper::table::{Measure, Record, Reservation, State};
+use crate::paper::tally::Tally;
 
 /// Octets on each side of what is lent. An odd number, so that what is lent
 /// lies at odd places too.
@@ -263,4 +264,65 @@ pub fn search(
 pub fn pick(n: u32, r: u32) -> u32 {
     // SAFETY: nothing is lent.
     unsafe { gemthatch_pick(n, r) }
+}
+
+/// The refusal, 0 where accepted, how many were handed out, and the record.
+pub fn record_at(memory: &mut Lent, state: State, i: u32) -> Result<(u32, u32, Record), String> {
+    let State { m1, now, count } = state;
+    unchanged(memory, |memory, octets| {
+        // SAFETY: so many octets are lent for the time of the call.
+        let place = unsafe { gemthatch_record_at(memory, octets, m1, now, count, i) };
+        let gemthatch::Record {
+            station,
+            first,
+            rate,
+            superframes,
+            length,
+            far,
+        } = place.record;
+        let record = Record {
+            station,
+            first,
+            rate,
+            superframes,
+            length,
+            far,
+        };
+        (place.refusal, place.handed, record)
+    })
+}
+
+/// A tally to lend, with a guard on each side. Its place is aligned, as that of
+/// any tally.
+pub struct LentTally([[u32; 2]; 3]);
+
+/// The two are not the same, so that a tally moved by its own size shows.
+const TALLY_GUARDS: [[u32; 2]; 2] = [[0xA5A4_A3A2, 0xA1A0_9F9E], [0x5A5B_5C5D, 0x5E5F_6061]];
+
+impl LentTally {
+    pub fn holding(tally: Tally) -> LentTally {
+        let [before, after] = TALLY_GUARDS;
+        LentTally([before, [tally.accepted, tally.refused], after])
+    }
+
+    /// What it holds, if its guards are whole.
+    pub fn tally(&self) -> Result<Tally, String> {
+        let [before, [accepted, refused], after] = self.0;
+        if [before, after] == TALLY_GUARDS {
+            Ok(Tally { accepted, refused })
+        } else {
+            Err(format!("a guard of the tally has changed: {:08X?}", self.0))
+        }
+    }
+}
+
+impl Default for LentTally {
+    fn default() -> LentTally {
+        LentTally::holding(Tally::default())
+    }
+}
+
+pub fn count(tally: &mut LentTally, refusal: u32) {
+    // SAFETY: the middle pair of numbers is lent for the time of the call.
+    unsafe { gemthatch_count(tally.0.as_mut_ptr().add(1).cast(), refusal) }
 }

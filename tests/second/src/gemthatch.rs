@@ -29,6 +29,32 @@ pub struct Writing {
     pub octets: [u8; 9],
 }
 
+/// `gemthatch_record`
+#[repr(C)]
+pub struct Record {
+    pub station: u32,
+    pub first: u32,
+    pub rate: u8,
+    pub superframes: u8,
+    pub length: u8,
+    pub far: u8,
+}
+
+/// `gemthatch_place`
+#[repr(C)]
+pub struct Place {
+    pub refusal: u32,
+    pub handed: u32,
+    pub record: Record,
+}
+
+/// `gemthatch_tally`
+#[repr(C)]
+pub struct Tally {
+    pub accepted: u32,
+    pub refused: u32,
+}
+
 /// What is added to the number of a refusal.
 pub const REFUSED: u32 = 2_000_000_000;
 
@@ -105,4 +131,13 @@ extern "C" {
         list_octets: usize,
     ) -> u32;
     pub fn gemthatch_pick(n: u32, r: u32) -> u32;
+    pub fn gemthatch_record_at(
+        memory: *const u8,
+        octets: usize,
+        m1: u32,
+        now: u32,
+        count: u32,
+        i: u32,
+    ) -> Place;
+    pub fn gemthatch_count(tally: *mut Tally, refusal: u32);
 }

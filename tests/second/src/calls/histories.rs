@@ -30,6 +30,9 @@ struct Seen {
     at_end: u64,
     /// Tables that were full.
     full: u64,
+    /// Walks that handed out a record, and that had no more.
+    handed: u64,
+    no_more: u64,
 }
 
 impl Seen {
@@ -39,7 +42,8 @@ impl Seen {
         format!(
             "{} M1; slots {free} free, {reusable} reusable, {taken} taken; {found} searches found \
              1 to 16; records {} dropped, {} rewritten, {} removed; {} clocks dropped some and \
-             kept some; {} calls at slot 0, {} at 1000000000; {} on a full table",
+             kept some; {} calls at slot 0, {} at 1000000000; {} on a full table; {} records \
+             handed out, {} times no more",
             self.m1s.len(),
             self.dropped,
             self.rewritten,
@@ -47,7 +51,9 @@ impl Seen {
             self.sifted,
             self.at_start,
             self.at_end,
-            self.full
+            self.full,
+            self.handed,
+            self.no_more
         )
     }
 
@@ -59,6 +65,7 @@ impl Seen {
             .iter()
             .chain([&self.dropped, &self.rewritten, &self.removed, &self.sifted])
             .chain([&self.at_start, &self.at_end, &self.full])
+            .chain([&self.handed, &self.no_more])
             .any(|&times| times < least);
         let few = self.found[1..].iter().any(|&times| times < found);
         if seldom || few || self.m1s.len() < m1s {
@@ -111,7 +118,7 @@ fn step(
     seen: &mut Seen,
 ) -> Result<(), String> {
     let state = channel.state;
-    match draw.below(12) {
+    match draw.below(14) {
         0..=2 => {
             let slot = near::clock(draw, channel);
             let dropped = pair.clock(channel, slot)?.unwrap_or(0);
@@ -138,6 +145,11 @@ fn step(
                 seen.slots[number as usize] += 1;
             }
         }
+        9..=10 => match pair.record_at(channel, near::place(draw, state))? {
+            Ok(Some(_)) => seen.handed += 1,
+            Ok(None) => seen.no_more += 1,
+            Err(refusal) => return Err(format!("a walk is refused {refusal}")),
+        },
         _ => {
             let (wish, mut list) = near::wish(draw, channel);
             if let Ok(found) = pair.search(channel, &wish, &mut list)? {

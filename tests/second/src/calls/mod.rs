@@ -12,6 +12,8 @@ mod order;
 mod pair;
 mod searches;
 mod soundness;
+mod tallies;
+mod walks;
 
 use std::fmt::Debug;
 
@@ -50,6 +52,8 @@ pub fn check(report: &mut Report) {
     add("large sound tables", searches::large);
     add("demand 3", demand_3::check);
     add("demand 3's premise", demand_3::premise);
+    add("the walk", walks::check);
+    add("the tally", tallies::check);
     for (call, name, _) in Call::ALL {
         let verdict = often(&pair, &Counts::default(), call, OFTEN);
         report.add("archive", &format!("answers of {name}"), verdict);

@@ -254,6 +254,15 @@ pub fn wish(draw: &mut Draw, channel: &Channel) -> (Wish, Lent) {
     (wish, Lent::holding(&rubbish))
 }
 
+/// A place of a walk: of some record, at either side of the last, or any.
+pub fn place(draw: &mut Draw, state: State) -> u32 {
+    match draw.below(4) {
+        0 => number(draw, state),
+        1 => state.count.wrapping_add(draw.below(3)).wrapping_sub(1),
+        _ => draw.below(state.count.max(1)),
+    }
+}
+
 /// A record that a sound table can hold, whether a reserve could have made it
 /// or not; one in so many is near.
 fn record(draw: &mut Draw, m1: u32, now: u32, nears: u32) -> Record {

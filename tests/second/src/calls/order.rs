@@ -315,6 +315,10 @@ fn earn(pair: &mut Pair, call: Call, draw: &mut Draw, earned: &Earned) -> Result
             },
             7,
         ),
+        Call::RecordAt => {
+            let mut channel = table(draw, vec![HELD], 1, earned);
+            Ok(pair.record_at(&mut channel, draw.below(3))?.map(|_| 0))
+        }
     }
 }
 

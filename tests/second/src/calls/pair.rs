@@ -4,11 +4,12 @@
 
 use std::fmt::Debug;
 
-use crate::archive::{self, Lent};
+use crate::archive::{self, Lent, LentTally};
 use crate::paper::codec::{self, Fields, GROUP};
 use crate::paper::search::{self, Wish};
 use crate::paper::slots;
 use crate::paper::table::{self, After, Measure, Reservation, State, RECORD};
+use crate::paper::walk::{self, Handed};
 use crate::paper::{over_c, Answer};
 
 #[derive(Clone, Copy, Debug, PartialEq, Eq)]
@@ -25,11 +26,12 @@ pub enum Call {
     SlotState,
     Search,
     Pick,
+    RecordAt,
 }
 
 impl Call {
     /// Each call, its name, and its refusals in the order of the paper.
-    pub const ALL: [(Call, &'static str, &'static [u32]); 12] = [
+    pub const ALL: [(Call, &'static str, &'static [u32]); 13] = [
         (Call::Read, "read", &[1, 2, 3, 4, 5, 6]),
         (Call::Write, "write", &[8, 9, 3, 4, 5, 6]),
         (Call::Rate, "rate", &[7, 3]),
@@ -42,6 +44,7 @@ impl Call {
         (Call::SlotState, "slot state", &[11, 12, 13]),
         (Call::Search, "search", &[11, 19, 9, 20, 1, 21]),
         (Call::Pick, "pick", &[20]),
+        (Call::RecordAt, "record at", &[11]),
     ];
 
     pub fn name(self) -> &'static str {
@@ -97,6 +100,10 @@ impl Counts {
         self.0.iter().flatten().sum()
     }
 
+    pub fn accepted(&self) -> u64 {
+        self.0.iter().map(|answers| answers[0]).sum()
+    }
+
     /// What was counted since then.
     pub fn since(&self, then: &Counts) -> Counts {
         let mut since = self.clone();
@@ -110,6 +117,8 @@ impl Counts {
 #[derive(Default)]
 pub struct Pair {
     pub counts: Counts,
+    /// The archive's own count of the same calls.
+    pub tally: LentTally,
 }
 
 fn hex(octets: &[u8]) -> String {
@@ -132,7 +141,7 @@ fn shown(octets: &[u8]) -> String {
 }
 
 /// Tells the first place in which two rows of octets differ.
-fn same_octets(what: &str, expected: &[u8], given: &[u8]) -> Result<(), String> {
+pub fn same_octets(what: &str, expected: &[u8], given: &[u8]) -> Result<(), String> {
     match expected
         .iter()
         .zip(given)
@@ -173,6 +182,7 @@ impl Pair {
         input: impl Fn() -> String,
     ) -> Compared {
         self.counts.add(call, answer);
+        archive::count(&mut self.tally, answer.err().unwrap_or(0));
         match compared {
             Ok(_) => Ok(answer),
             Err(difference) => Err(format!("{}, {}: {difference}", call.name(), input())),
@@ -342,5 +352,26 @@ impl Pair {
         let expected = search::pick(n, r);
         let compared = same("number", over_c(expected), archive::pick(n, r));
         self.told(Call::Pick, expected, compared, || format!("n {n}, r {r}"))
+    }
+
+    /// The record both handed out, none where there is no more, or their
+    /// refusal.
+    pub fn record_at(&mut self, channel: &mut Channel, i: u32) -> Result<Handed, String> {
+        let state = channel.state;
+        let expected = walk::record_at(channel.memory.octets(), state, i);
+        let one = expected.ok().flatten();
+        let compared = archive::record_at(&mut channel.memory, state, i).and_then(
+            |(refusal, handed, record)| {
+                same("refusal", expected.err().unwrap_or(0), refusal)?;
+                same("handed", u32::from(one.is_some()), handed)?;
+                same("record", one.unwrap_or_default(), record)
+            },
+        );
+        let answer = expected.map(|_| 0);
+        let _ = self.told(Call::RecordAt, answer, compared, || {
+            let memory = shown(channel.memory.octets());
+            format!("{i}, {state:?}, memory {memory}")
+        })?;
+        Ok(expected)
     }
 }

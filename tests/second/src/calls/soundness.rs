@@ -46,15 +46,16 @@ pub fn by_every_call(pair: &mut Pair, channel: &Channel) -> Result<bool, String>
         pair.wipe(&mut copy(), 1)?,
         pair.slot_state(&mut copy(), now)?,
         pair.search(&mut copy(), &wish, &mut list)?,
+        pair.record_at(&mut copy(), 0)?.map(|_| 0),
     ];
-    let [clock, reserve, distance, wipe, slot_state, search] = answers;
+    let [clock, reserve, distance, wipe, slot_state, search, record_at] = answers;
     // A sound table may be full, and its slot now may be taken.
-    let sound = [clock, distance, wipe, slot_state]
+    let sound = [clock, distance, wipe, slot_state, record_at]
         .iter()
         .all(|answer| answer.is_ok())
         && matches!(reserve, Ok(_) | Err(17))
         && matches!(search, Ok(_) | Err(21));
-    if sound || answers == [Err(11); 6] {
+    if sound || answers == [Err(11); 7] {
         Ok(sound)
     } else {
         Err(format!("{:?}: the calls give {answers:?}", channel.state))
@@ -186,5 +187,5 @@ pub fn check(pair: &mut Pair) -> Verdict {
     let mut tried = 0;
     state(pair, &mut tried)?;
     records(pair, &mut tried)?;
-    Ok(format!("{tried} sides of edges, each by six calls"))
+    Ok(format!("{tried} sides of edges, each by seven calls"))
 }

@@ -6,6 +6,8 @@ pub mod distance;
 pub mod search;
 pub mod slots;
 pub mod table;
+pub mod tally;
+pub mod walk;
 
 /// A number of the paper's table of refusals.
 pub type Refusal = u32;

@@ -21,7 +21,7 @@ pub struct State {
     pub count: u32,
 }
 
-#[derive(Clone, Copy, Debug, PartialEq, Eq)]
+#[derive(Clone, Copy, Debug, Default, PartialEq, Eq)]
 pub struct Record {
     pub station: u32,
     pub first: u32,
