@@ -4,6 +4,7 @@ use Rattle.octets.specs.Refusals.{answer}
 use Rattle.codec.specs.NineOctets.{fieldTests, readTests}
 use Rattle.codec.specs.Claims.{BitOrder}
 
+-- octet 4 with one of the three bits set
 pub bit-order : BitOrder
 unfolding answer readTests fieldTests
 bit-order = (refl, refl)

@@ -1,11 +1,11 @@
--- Two's complement in one octet. omega does not read ℤ, so each law turns a fact of ℤ into one of ℕ. Assumes nothing.
-use Prim.Native.Nat.{ℕ, suc, _-_, _<_, _≤_}
-use mathlib.Core.Path.{_≡_, refl, sym, _∙_, ap, subst⁻¹}
+-- Two's complement in one octet, and signed numbers of 32 bits that are not below 0. omega does not read ℤ, so each law turns a fact of ℤ into one of ℕ. Assumes nothing.
+use Prim.Native.Nat.{ℕ, suc, _-_, _^_, _<_, _≤_}
+use mathlib.Core.Path.{_≡_, refl, sym, _∙_}
 use mathlib.Core.Bool.{Bool, true, false, true≢false}
 use native.Mathlib.Omega.{arith}
-use mir.Syntax.{w8, w32}
+use mir.Syntax.{Width, w8, w32}
 use mir.Val.{toZ, ofZ, Fits, SFits}
-use mir.Facts.{toZ-pos}
+use mir.Facts.{toZ-ofZ}
 use lib.IntN.{ℤ, pos, negsuc, natAbs, _+ℤ_}
 use lib.Signed.{ltZ, nonNeg}
 use lib.Dec.{T, ltb, eqb}
@@ -13,18 +13,24 @@ use borrow.Author.Tests.{ltb-true, ltb-false, lt-ltb, le-ltb, eqb-true, eqb-fals
 use Rattle.octets.proofs.Refusals.{or-false}
 use Rattle.codec.specs.NineOctets.{badOffset, twosOf, signedOf}
 
+-- ---- an offset that is not bad
+
+-- what is not outside -127..127 has a size of at most 127
+pub offset-small : (z : ℤ) → badOffset z ≡ false → natAbs z ≤ 127
+offset-small (pos n) h = ltb-false 127 n h
+offset-small (negsuc n) h = omega (arith, ltb-false 126 n (or-false (ltb 126 n) false h .0))
+
 -- ---- there and back
 
-negative-low : (n : ℕ) → badOffset (negsuc n) ≡ false → n ≤ 126
-negative-low n h = ltb-false 126 n (or-false (ltb 126 n) false h .0)
-
+-- a number comes back from its octet
 pub signed-twos : (z : ℤ) → badOffset z ≡ false → signedOf (twosOf z) ≡ z
-signed-twos (pos n) h = let l : n ≤ 127 = ltb-false 127 n h in simp (lt-ltb n 128 (omega arith))
+signed-twos (pos n) h = let l = offset-small (pos n) h in simp (lt-ltb n 128 (omega arith))
 signed-twos (negsuc n) h =
-    let l = negative-low n h in
+    let l = offset-small (negsuc n) h in
     let e : 256 - suc (255 - n) ≡ n = omega arith in
     simp (le-ltb (255 - n) 128 (omega arith), lt-ltb (255 - n) 256 (omega arith), e)
 
+-- an octet comes back from its number
 pub twos-signed : (n : ℕ) → n < 256 → twosOf (signedOf n) ≡ n
 twos-signed n h = go (ltb n 128) refl
   where
@@ -51,33 +57,37 @@ octet-offset n h = go (ltb n 128) (eqb n 128) refl refl
         let k : n ≡ 128 → ⊥ = eqb-false n 128 (sym f) in
         simp (← e, lt-ltb n 256 h, le-ltb 126 (256 - suc n) (omega (arith, k)))
 
--- ---- as code at 32 bits works it out
+-- ---- twosOf, as code at 32 bits works it out
 
-pub twos-octet : (z : ℤ) → badOffset z ≡ false → twosOf z < 256
-twos-octet (pos n) h = omega (arith, ltb-false 127 n h)
-twos-octet (negsuc n) h = omega arith
+-- it is an octet
+pub twos-octet : (z : ℤ) → badOffset z ≡ false → Fits w8 (twosOf z)
+twos-octet (pos n) h = record { fits = omega (arith, offset-small (pos n) h) }
+twos-octet (negsuc n) h = record { fits = omega arith }
 
+-- below 0, a number and 256 make its octet's number
 pub twos-below : (z : ℤ) → badOffset z ≡ false → ltZ z (pos 0) ≡ true → z +ℤ pos 256 ≡ pos (twosOf z)
 twos-below (pos n) h l = let none : n < 0 = ltb-true n 0 l in absurd (omega arith)
 twos-below (negsuc n) h l =
-    let k = negative-low n h in
+    let k = offset-small (negsuc n) h in
     let e : 256 - suc n ≡ 255 - n = omega arith in
     simp (le-ltb 256 (suc n) (omega arith), e)
 
+-- from 0 on, it is its octet's number
 pub twos-above : (z : ℤ) → ltZ z (pos 0) ≡ false → z ≡ pos (twosOf z)
 twos-above (pos n) l = refl
 twos-above (negsuc n) l = absurd (true≢false l)
 
--- an i32 that is an octet's number: what a cast of it to a u8 asks and gives
-module _ {z : ℤ} {n : ℕ} (e : z ≡ pos n) (h : n < 256) where
-  stays : toZ w32 (ofZ w32 z) ≡ pos n
-  stays = ap (λ (y : ℤ). toZ w32 (ofZ w32 y)) e ∙ toZ-pos w32 (omega arith)
+-- ---- an i32 that is not below 0
 
-  pub octet-fits : SFits w32 z
-  octet-fits = subst⁻¹ (SFits w32) e (record { sfits = omega arith })
+module _ {z : ℤ} {n : ℕ} (e : z ≡ pos n) (h : n < 2 ^ 31) where
+  -- it fits
+  pub whole-fits : SFits w32 z
+  whole-fits = rw e (record { sfits = h })
 
-  pub octet-casts : T (nonNeg (toZ w32 (ofZ w32 z))) × Fits w8 (natAbs (toZ w32 (ofZ w32 z)))
-  octet-casts = subst⁻¹ (λ (y : ℤ). T (nonNeg y) × Fits w8 (natAbs y)) stays (tt, record { fits = h })
+  -- its bits stand for it
+  pub whole-stays : toZ w32 (ofZ w32 z) ≡ pos n
+  whole-stays = toZ-ofZ whole-fits ∙ e
 
-  pub octet-gives : natAbs (toZ w32 (ofZ w32 z)) ≡ n
-  octet-gives = ap natAbs stays
+  -- it casts to any width that holds it
+  pub whole-casts : {w : Width} → Fits w n → T (nonNeg (toZ w32 (ofZ w32 z))) × Fits w (natAbs (toZ w32 (ofZ w32 z)))
+  whole-casts f = rw whole-stays (tt, f)

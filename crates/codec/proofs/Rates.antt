@@ -1,11 +1,11 @@
 -- The refusal of a rate lookup by the tests that led to it. Assumes nothing.
 use Prim.Native.Nat.{ℕ, _≤_, _<_}
 use mathlib.Core.Path.{_≡_, _∙_, ap}
-use mathlib.Core.Bool.{Bool, true, false, cond, not, _||_}
+use mathlib.Core.Bool.{true, false, cond, not}
 use mathlib.Core.List.{List}
 use native.Mathlib.Omega.{arith}
 use borrow.Author.Tests.{eq-eqb, ne-eqb, eqb-true, eqb-false, le-leb, leb-true, not-false}
-use lib.Dec.{leb, eqb}
+use lib.Dec.{eqb}
 use lib.ListN.{length, getD}
 use Rattle.octets.specs.Lists.{every}
 use Rattle.octets.specs.Refusals.{firstOf}
@@ -13,44 +13,56 @@ use Rattle.octets.proofs.Refusals.{answer-refused, answer-accepted, by-test, or
 use Rattle.codec.specs.NineOctets.{badCode}
 use Rattle.codec.specs.Rates.{badList, rateTests, rateFound}
 
--- a list that is not bad has sixteen entries
-pub good-length : (rates : List ℕ) → badList rates ≡ false → length rates ≡ 16
-unfolding badList
-good-length rates h = eqb-true (length rates) 16 (not-false _ (or-false _ _ (or-false _ _ (or-false _ _ (or-false _ _ h .0) .0) .0) .0))
+-- ---- a list that is not bad
 
--- and 0 at every code up to 15 that is bad
-pub bad-code-entry : (rates : List ℕ) (code : ℕ) → badList rates ≡ false → code ≤ 15 → badCode code ≡ true → getD rates code 0 ≡ 0
+-- it has sixteen entries, and 0 at 7, 14 and 15
+pub badList-false : (rates : List ℕ) → badList rates ≡ false → (length rates ≡ 16) × (getD rates 7 0 ≡ 0) × (getD rates 14 0 ≡ 0) × (getD rates 15 0 ≡ 0)
 unfolding badList
-bad-code-entry rates code h l k =
-    let held : ℕ → Bool = λ n. not (eqb (getD rates n 0) 0) in
-    let front = not (eqb (length rates) 16) || not (every (λ r. leb r 60) rates) in
-    let p15 = or-false (front || held 7 || held 14) (held 15) h in
-    let p14 = or-false (front || held 7) (held 14) (p15 .0) in
-    let p7 = or-false front (held 7) (p14 .0) in
-    by-test (eqb code 7) (at 7 (p7 .1)) (λ f.
-    by-test (eqb code 14) (at 14 (p14 .1)) (λ g.
-    at 15 (p15 .1) (eq-eqb code 15 (omega (arith, l, leb-true 14 code (rw f at k), eqb-false code 14 g)))))
+badList-false rates h =
+    let p15 = or-false _ _ h in
+    let p14 = or-false _ _ (p15 .0) in
+    let p7 = or-false _ _ (p14 .0) in
+    let p16 = or-false _ _ (p7 .0) in
+    (same _ _ (p16 .0), same _ _ (p7 .1), same _ _ (p14 .1), same _ _ (p15 .1))
   where
-    at : (n : ℕ) → not (eqb (getD rates n 0) 0) ≡ false → eqb code n ≡ true → getD rates code 0 ≡ 0
-    at n z e = ap (λ (m : ℕ). getD rates m 0) (eqb-true code n e) ∙ eqb-true (getD rates n 0) 0 (not-false _ z)
+    same : (a b : ℕ) → not (eqb a b) ≡ false → a ≡ b
+    same a b e = eqb-true a b (not-false (eqb a b) e)
+
+-- so it has 0 at every code up to 15 that is bad
+bad-code-entry : (rates : List ℕ) (code : ℕ) → badList rates ≡ false → code ≤ 15 → badCode code ≡ true → getD rates code 0 ≡ 0
+bad-code-entry rates code h l k =
+    let p = badList-false rates h in
+    by-test (eqb code 7) (at 7 (p .1)) (λ f.
+    by-test (eqb code 14) (at 14 (p .2)) (λ g.
+    at 15 (p .3) (eq-eqb code 15 (omega (arith, l, leb-true 14 code (rw f at k), eqb-false code 14 g)))))
+  where
+    at : (n : ℕ) → getD rates n 0 ≡ 0 → eqb code n ≡ true → getD rates code 0 ≡ 0
+    at n z e = ap (λ (m : ℕ). getD rates m 0) (eqb-true code n e) ∙ z
+
+-- ---- which refusal
 
 module _ (rates : List ℕ) (code : ℕ) where
+  -- 7 for a bad list
   pub rate-7 : badList rates ≡ true → 7 ≡ firstOf (rateTests rates code)
   unfolding rateTests
   rate-7 h = simp h
 
   module _ (h : badList rates ≡ false) where
+    -- 3 for a bad code
     rate-3-code : badCode code ≡ true → 3 ≡ firstOf (rateTests rates code)
     unfolding rateTests
     rate-3-code k = simp (h, k)
 
+    -- so for a code above 15
     pub rate-3-high : 15 < code → 3 ≡ firstOf (rateTests rates code)
     rate-3-high l = rate-3-code (simp (ne-eqb code 7 (λ e. omega arith), le-leb 14 code (omega arith)))
 
+    -- 3 for a code whose entry is 0
     rate-3-entry : badCode code ≡ false → getD rates code 0 ≡ 0 → 3 ≡ firstOf (rateTests rates code)
     unfolding rateTests
     rate-3-entry k z = simp (h, k, eq-eqb _ _ z)
 
+    -- none for any other
     rate-0 : badCode code ≡ false → (getD rates code 0 ≡ 0 → ⊥) → 0 ≡ firstOf (rateTests rates code)
     unfolding rateTests
     rate-0 k z = simp (h, k, ne-eqb _ _ z)

@@ -1,5 +1,5 @@
 -- Reading and writing undo each other but for the reserved bits. Assumes nothing.
-use Prim.Native.Nat.{ℕ, _+_, _*_, _/_, _%_, _<_}
+use Prim.Native.Nat.{ℕ, _+_, _*_, _/_, _%_, _^_, _<_}
 use mathlib.Core.Path.{_≡_, refl, sym, _∙_, ap}
 use mathlib.Core.List.{List}
 use native.Mathlib.Omega.{arith}
@@ -19,13 +19,14 @@ use Rattle.codec.proofs.Tests.{reading-refusal, writing-refusal, write-
 -- ---- reading what was written
 
 -- d is put together again from its bits
-d-bits : (d : ℕ) → d < 134217728 → bits 27 25 d * 16777216 + bits 24 17 d * 65536 + bits 16 9 d * 256 + bits 8 1 d ≡ d
+d-bits : (d : ℕ) → d < 2 ^ 27 → bits 27 25 d * 16777216 + bits 24 17 d * 65536 + bits 16 9 d * 256 + bits 8 1 d ≡ d
 d-bits d h =
     let e : d / 256 / 256 ≡ d / 65536 = div-div-eq-div-mul d 256 256 in
     let f : d / 65536 / 256 ≡ d / 16777216 = div-div-eq-div-mul d 65536 256 in
     let g : bits 27 25 d ≡ d / 16777216 = omega arith in
     rw (g, div-one d) (omega arith)
 
+-- fields that fit come back from their octets
 same-fields : (b : Block) → Fitting b → blockOf (octetsOf b) ≡ b
 same-fields b r =
     let d-high : bits 3 1 (b .blg * 8 + bits 27 25 (b .d)) ≡ bits 27 25 (b .d) = omega arith in
@@ -34,6 +35,7 @@ same-fields b r =
     let bt-same : bits 2 1 (16 + b .bt) ≡ b .bt = omega arith in
     rw (d-high, d-bits (b .d) (r .d-low), blg-same, br-same, bt-same, signed-twos (b .bo) (r .bo-in))
 
+-- so a block that was written is read back
 pub written-is-read : WrittenIsRead
 written-is-read b h =
     let w = sym h ∙ writing-refusal b in
@@ -53,6 +55,7 @@ octet-bits : (o : ℕ) → o < 256 → bits 8 4 o * 8 + bits 3 1 o % 8 ≡ o
 octet-bits o h = rw (div-one o) (omega arith)
 
 module _ (s : List ℕ) (are : AreOctets s) where
+  -- octets come back from their fields, the reserved bits cleared
   same-octets : bits 8 4 (octet 9 s) ≡ 2 → octetsOf (blockOf s) ≡ cleared s
   same-octets id =
       let b1 = are 0 in
@@ -69,6 +72,7 @@ module _ (s : List ℕ) (are : AreOctets s) where
       let e9 : 16 + bits 2 1 (octet 9 s) ≡ bits 8 4 (octet 9 s) * 8 + bits 2 1 (octet 9 s) = omega arith in
       rw (e1, e2, e3, e4, e9, twos-signed (octet 8 s) (are 7))
 
+-- so octets that were read are written back
 pub read-is-written : ReadIsWritten
 read-is-written s are h =
     let r = sym h ∙ reading-refusal s in

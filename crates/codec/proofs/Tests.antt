@@ -19,14 +19,17 @@ use Rattle.codec.specs.Steps.{Fitting}
 -- ---- the refusal by the tests that led to it
 
 module _ (s : List ℕ) where
+  -- 1 where there are not nine octets
   pub read-1 : (length s ≡ 9 → ⊥) → 1 ≡ firstOf (readTests s)
   unfolding readTests
   read-1 h = simp (ne-eqb _ _ h)
 
+  -- 2 where the extended ID is another
   pub read-2 : length s ≡ 9 → (bits 8 4 (octet 9 s) ≡ 2 → ⊥) → 2 ≡ firstOf (readTests s)
   unfolding readTests
   read-2 l h = simp (eq-eqb _ _ l, ne-eqb _ _ h)
 
+  -- else what the fields call for
   pub read-fields : length s ≡ 9 → bits 8 4 (octet 9 s) ≡ 2 → firstOf (fieldTests (blockOf s)) ≡ firstOf (readTests s)
   unfolding readTests
   read-fields l h = simp (eq-eqb _ _ l, eq-eqb _ _ h)
@@ -58,30 +61,37 @@ module _ (b : Block) where
 
 -- an octet is too low for a field from 2 on, or fits it
 module _ (n : ℕ) where
+  -- below 2 it is outside
   pub octet-low : n < 2 → outside 2 255 n ≡ true
   octet-low h = simp (lt-ltb n 2 h)
 
+  -- from 2 on it is not
   pub octet-inside : 2 ≤ n → n < 256 → outside 2 255 n ≡ false
   octet-inside l h = simp (le-ltb n 2 l, le-ltb 255 n (omega arith))
 
+-- where d, blg and bt fit, writing is refused for what reading is
 pub write-fields : (b : Block) → b .d < 2 ^ 27 → b .blg ≤ 31 → b .bt ≤ 3 → firstOf (fieldTests b) ≡ firstOf (writeTests b)
 unfolding writeTests
 write-fields b d blg bt = simp (lt-leb _ _ d, le-ltb _ _ blg, le-ltb _ _ bt)
 
 -- ---- the refusal that an answer says
 
+-- a reading says its refusal
 pub reading-refusal : (s : List ℕ) → reading s .refusal ≡ firstOf (readTests s)
 reading-refusal s = answer-says _ refusedReading (λ (x : Reading). x .refusal) refl (λ n. refl) (firstOf (readTests s))
 
+-- no reading is refused above 6
 pub reading-refusal-most : (s : List ℕ) → reading s .refusal ≤ 6
 unfolding readTests fieldTests
 reading-refusal-most s = rw (reading-refusal s) (firstOf-most 6 (readTests s) refl)
 
+-- a writing says its refusal
 pub writing-refusal : (b : Block) → writing b .refusal ≡ firstOf (writeTests b)
 writing-refusal b = answer-says _ refusedWriting (λ (x : Writing). x .refusal) refl (λ n. refl) (firstOf (writeTests b))
 
 -- ---- what is not refused
 
+-- fields that are written fit their bits
 pub write-passed : (b : Block) → firstOf (writeTests b) ≡ 0 → Fitting b × (firstOf (fieldTests b) ≡ 0)
 unfolding writeTests fieldTests
 write-passed b h =
@@ -102,6 +112,7 @@ write-passed b h =
       p9 .2,
     )
 
+-- octets that are read are nine, with the right extended ID and good fields
 pub read-passed : (s : List ℕ) → firstOf (readTests s) ≡ 0
     → (length s ≡ 9) × (bits 8 4 (octet 9 s) ≡ 2) × (firstOf (fieldTests (blockOf s)) ≡ 0)
 unfolding readTests fieldTests

@@ -23,11 +23,13 @@ digits-steps (suc j) (suc k) n h i = go (ltb n 10) refl (λ g. digits-steps j k 
     go true e f = simp e
     go false e f = simp e (ap (λ x. x ++ ((48 + n % 10) ∷ [])) (f (ltb-false n 10 e)))
 
+-- a number of one digit
 pub decimal-one : (n : ℕ) → n < 10 → decimal n ≡ (48 + n) ∷ []
 unfolding digits decimal
 decimal-one zero h = refl
 decimal-one (suc n) h = simp (lt-ltb (suc n) 10 h)
 
+-- any other: the digits of n / 10, and the last one
 decimal-more : (n : ℕ) → 10 ≤ n → decimal n ≡ decimal (n / 10) ++ ((48 + n % 10) ∷ [])
 unfolding digits decimal
 decimal-more zero h = absurd (omega arith)
@@ -35,14 +37,17 @@ decimal-more (suc n) h =
     simp (le-ltb (suc n) 10 h)
     (ap (λ x. x ++ ((48 + suc n % 10) ∷ [])) (digits-steps n (suc n / 10) (suc n / 10) (omega arith) (omega arith)))
 
+-- a number of two digits
 pub decimal-two : (n : ℕ) → 10 ≤ n → n < 100 → decimal n ≡ (48 + n / 10) ∷ (48 + n % 10) ∷ []
 decimal-two n h l = decimal-more n h ∙ rw (decimal-one (n / 10) (omega arith))
 
+-- of three
 pub decimal-three : (n : ℕ) → 100 ≤ n → n < 1000 → decimal n ≡ three n
 decimal-three n h l =
     let e : n / 10 / 10 ≡ n / 100 = omega arith in
     decimal-more n (omega arith) ∙ rw (decimal-two (n / 10) (omega arith) (omega arith), e)
 
+-- of more: those of n / 1000, and three
 pub decimal-thousand : (n : ℕ) → 1000 ≤ n → decimal n ≡ decimal (n / 1000) ++ three (n % 1000)
 decimal-thousand n h =
     let e : n / 10 / 10 / 10 ≡ n / 1000 = omega arith in

@@ -5,4 +5,3 @@ pub mod Signed
 pub mod Lines
 pub mod Readings
 pub mod Pieces
-pub mod Claimed

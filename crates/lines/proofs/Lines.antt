@@ -5,43 +5,49 @@ use mathlib.Core.Bool.{Bool, true, false}
 use mathlib.Core.List.{List, _++_}
 use native.Mathlib.Numerals.{add-one}
 use native.Mathlib.Omega.{arith}
-use borrow.Author.Tests.{ltb-false, eqb-true, eqb-false}
-use lib.Dec.{ltb, eqb}
+use borrow.Author.Tests.{eqb-true, eqb-false}
+use lib.Dec.{eqb}
 use lib.IntN.{ℤ, pos, negsuc}
 use lib.ListN.{length, length-append}
 use Rattle.octets.specs.Octets.{AreOctets}
-use Rattle.octets.proofs.Refusals.{answer-accepted, answer-refused, or-false}
+use Rattle.octets.proofs.Refusals.{answer-accepted, answer-refused}
 use Rattle.codec.specs.declared.Block.{Block}
 use Rattle.codec.specs.Steps.{Fitting}
 use Rattle.codec.specs.declared.Reading.{Reading}
 use Rattle.codec.specs.NineOctets.{reading, badOffset}
+use Rattle.codec.proofs.Complement.{offset-small}
 use Rattle.codec.proofs.Tests.{read-fitting, reading-refusal-most}
 use Rattle.lines.specs.Text.{signed}
 use Rattle.lines.specs.Listing.{fields, refused, line, group, lines, longest}
 use Rattle.lines.proofs.Decimal.{length-decimal}
 
+-- ---- which line
+
 module _ (g : List ℕ) (r : Reading) (e : r ≡ reading g) where
+  -- an accepted group has the line of its fields
   pub line-fields : r .refusal ≡ 0 → line g ≡ fields (r .block)
   unfolding line
   line-fields z = rw (← e) (sym (answer-accepted (fields (r .block)) refused (sym z)))
 
+  -- and any other that of its refusal
   pub line-refused : (r .refusal ≡ 0 → ⊥) → line g ≡ refused (r .refusal)
   unfolding line
   line-refused n = rw (← e) (sym (answer-refused (fields (r .block)) refused refl n))
 
+-- one group more
 pub lines-next : (n : ℕ) (s : List ℕ) → lines (n + 1) s ≡ lines n s ++ line (group s n)
 unfolding lines
 lines-next n s = rw add-one
 
 -- ---- how long they are
 
+-- bo has at most four characters
 signed-short : (z : ℤ) → badOffset z ≡ false → length (signed z) ≤ 4
 unfolding signed
-signed-short (pos n) h = let l : n ≤ 127 = ltb-false 127 n h in omega (arith, length-decimal 2 n (omega arith))
-signed-short (negsuc n) h =
-    let l : n ≤ 126 = ltb-false 126 n (or-false (ltb 126 n) false h .0) in
-    omega (arith, length-decimal 2 (suc n) (omega arith))
+signed-short (pos n) h = omega (arith, length-decimal 2 n (omega (arith, offset-small (pos n) h)))
+signed-short (negsuc n) h = omega (arith, length-decimal 2 (suc n) (omega (arith, offset-small (negsuc n) h)))
 
+-- the line of fields that fit is no longer than `longest`
 fields-short : (b : Block) → Fitting b → length (fields b) ≤ longest
 unfolding fields
 fields-short b f =
@@ -57,10 +63,12 @@ fields-short b f =
       length-decimal 0 (b .bt) (omega (arith, f .bt-low)),
     ))
 
+-- nor is that of a refusal
 refused-short : (n : ℕ) → n ≤ 6 → length (refused n) ≤ longest
 unfolding refused
 refused-short n h = simp length-append (omega (arith, length-decimal 0 n (omega arith)))
 
+-- so no line is
 pub line-longest : (g : List ℕ) → AreOctets g → length (line g) ≤ longest
 line-longest g are = go (eqb (reading g .refusal) 0) refl
   where

@@ -9,26 +9,30 @@ use lib.Seq.{take-append-le, drop-append-le, drop-append-add}
 use Rattle.lines.specs.Listing.{group, groups, lines, listed}
 
 module _ (s t : List ℕ) where
-  -- a group within the first piece, and one of the second
+  -- a group within the first piece
   group-first : (k : ℕ) → k * 9 + 9 ≤ length s → group (s ++ t) k ≡ group s k
   group-first k h =
       rw (drop-append-le (k * 9) s t (omega arith), take-append-le 9 (drop (k * 9) s) t (rw length-drop (omega arith)))
 
+  -- a group of the second
   group-second : (m k : ℕ) → length s ≡ m * 9 → group (s ++ t) (m + k) ≡ group t k
   group-second m k e =
       let f : (m + k) * 9 ≡ length s + k * 9 = omega arith in
       rw (f, drop-append-add)
 
+  -- the lines of groups within the first piece
   lines-first : (n : ℕ) → n * 9 ≤ length s → lines n (s ++ t) ≡ lines n s
   unfolding lines
   lines-first zero h = refl
   lines-first (suc n) h = rw (lines-first n (omega arith), group-first n (omega arith))
 
+  -- the lines of all of the first, and of groups of the second
   lines-second : (m n : ℕ) → length s ≡ m * 9 → lines (m + n) (s ++ t) ≡ lines m s ++ lines n t
   unfolding lines
   lines-second m zero e = rw (add-zero, append-nil) (lines-first m (omega arith))
   lines-second m (suc n) e = rw (add-suc m n, lines-second m n e, group-second m n e, append-assoc)
 
+-- the lines of both
 pub pieces : (s t : List ℕ) → length s % 9 ≡ 0 → listed (s ++ t) ≡ listed s ++ listed t
 pieces s t h =
     let e : length s ≡ groups s * 9 = omega arith in

@@ -14,14 +14,16 @@ use Rattle.lines.specs.Text.{decimal}
 use Rattle.lines.specs.Steps.{Wrote}
 use Rattle.lines.proofs.Decimal.{decimal-one, decimal-two, decimal-three}
 
--- where the second digit goes, and the third
+-- where the second digit goes
 abbrev pub second : ℕ → ℕ → ℕ
 second at n = at + cond (ltb 99 n) 1 0
 
+-- and the third
 abbrev pub third : ℕ → ℕ → ℕ
 third at n = second at n + cond (ltb 9 n) 1 0
 
 module _ (l : List ℕ) (at n : ℕ) (small : n < 1000) where
+  -- the three digits, put there, are the number
   pub small-wrote : Wrote l at (decimal n) (third at n + 1)
       (set (set (set l at (48 + n / 100)) (second at n) (48 + n / 10 % 10)) (third at n) (48 + n % 10))
   small-wrote = go (ltb 99 n) (ltb 9 n) refl refl
@@ -41,4 +43,4 @@ module _ (l : List ℕ) (at n : ℕ) (small : n < 1000) where
       go false false e f =
           let a : n < 10 = omega (arith, ltb-false 9 n f) in
           let b : n % 10 ≡ n = omega arith in
-          rw (decimal-one n a) (record { place = omega arith; holds = rw (add-zero (at + 0), add-zero at, set-set, set-set, b) })
+          rw (decimal-one n a) (record { place = omega arith; holds = simp (add-zero, set-set, b) })

@@ -10,6 +10,7 @@ use lib.Seq.{sets, sets-eq, length-sets, set-set, split-at, take-suc, take-all, 
 use Rattle.octets.specs.Octets.{zeroFrom, holdsOnly}
 use Rattle.lines.specs.Steps.{Room, Wrote}
 
+-- one text and then another, as one
 sets-append : (l : List ℕ) (at : ℕ) (x y : List ℕ) → sets l at (x ++ y) ≡ sets (sets l at x) (at + length x) y
 sets-append l at [] y = ap (λ k. sets l k y) (sym (add-zero at))
 sets-append l at (b ∷ x) y =
@@ -21,6 +22,7 @@ pub sets-over : (l : List ℕ) (at a : ℕ) (x : List ℕ) → 0 < length x → 
 sets-over l at a [] h = absurd (omega arith)
 sets-over l at a (b ∷ x) h = rw set-set
 
+-- the memory keeps its length
 pub length-wrote : {l l₁ x : List ℕ} {at r : ℕ} → Wrote l at x r l₁ → length l₁ ≡ length l
 length-wrote w = ap length (w .holds) ∙ simp length-sets
 
@@ -32,22 +34,26 @@ and-then {l} {x = x} {y} {at} a b =
       holds = b .holds ∙ rw (a .place, a .holds) (sym (sets-append l at x y));
     }
 
--- where there is room for both, there is room for the first, and after it for the second
+-- where there is room for both, there is room for the first
 pub room-first : {l x : List ℕ} {at : ℕ} (y : List ℕ) → Room l at (x ++ y) → Room l at x
 room-first {x = x} y h = record { room = omega (arith, length-append x y) }
 
+-- and after it for the second
 pub room-then : {l l₁ x y : List ℕ} {at r : ℕ} → Room l at (x ++ y) → Wrote l at x r l₁ → Room l₁ r y
 room-then {l} {x = x} {y} {at} h w =
     record { room = omega (arith, w .place, length-wrote w, length-append x y) }
 
 -- a text s octet by octet: its first i are put, and there is room for all of it
 module _ (s : List ℕ) (i : ℕ) {l l₁ : List ℕ} {at r : ℕ} (w : Wrote l at (take i s) r l₁) where
+  -- there is room for the next octet
   pub room-next : Room l at s → i < length s → Room l₁ r (getD s i 0 ∷ [])
   room-next h b = room-first (drop (suc i) s) (room-then (rw (split-at s i 0 b) at h) w)
 
+  -- which is put
   pub text-next : {l₂ : List ℕ} {r₁ : ℕ} → i < length s → Wrote l₁ r (getD s i 0 ∷ []) r₁ l₂ → Wrote l at (take (i + 1) s) r₁ l₂
   text-next b v = rw (add-one, take-suc s i 0 b) (and-then w v)
 
+  -- all are put
   pub text-whole : length s ≤ i → Wrote l at s r l₁
   text-whole h = rw (take-all i s h) at w
 

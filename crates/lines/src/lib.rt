@@ -206,6 +206,7 @@ pub fn list(input: &[u8], text: &mut [u8]) -> usize
     end
 }
 
+// The header line.
 pub fn header() -> [u8; 23]
     ensures { λ r. ⌜ r ≡ header ⌝ }
 {

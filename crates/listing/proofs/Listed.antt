@@ -10,6 +10,7 @@ use Rattle.octets.specs.Octets.{holdsOnly}
 use Rattle.lines.specs.Listing.{groups, listed, longest, told}
 use Rattle.listing.specs.Steps.{Roomy, Lines}
 
+-- where there is room, the lines are all there
 pub with-room : (s t : List ℕ) {t′ : List ℕ} {r : ℕ} → Roomy s t → r ≡ length (told s t) → t′ ≡ holdsOnly (length t) (told s t) → Lines s r t′
 with-room s t {t′} {r} room e f =
     let h = le-leb (groups s * longest) (length t) room in

@@ -15,10 +15,12 @@ pub record Moved (l₀ : List ℕ) (from : ℕ) (l : List ℕ) (i : ℕ) : Type 
   pub others : drop i l ≡ drop i l₀
 
 module _ {l₀ l : List ℕ} {from i : ℕ} (m : Moved l₀ from l i) (h : from + i < length l₀) where
+  -- the octet to be moved next is as it was
   unmoved : getD l (from + i) 0 ≡ getD l₀ (from + i) 0
   unmoved =
       rw (add-comm from i) (sym (getD-drop i l from 0) ∙ (ap (λ (x : List ℕ). getD x from 0) (m .others) ∙ getD-drop i l₀ from 0))
 
+  -- it is moved
   pub moved-next : Moved l₀ from (set l i (getD l (from + i) 0)) (i + 1)
   moved-next =
       let v = getD l (from + i) 0 in

@@ -15,12 +15,14 @@ use Rattle.octets.specs.Lists.{keep, has, every, from}
 module _ {A : Type 0} where
   -- ---- keep
 
-  pub keep-keep : (p q : A → Bool) (xs : List A) → keep p (keep q xs) ≡ keep (λ x. q x && p x) xs
+  -- kept by one test and then by another: kept by both
+  keep-keep : (p q : A → Bool) (xs : List A) → keep p (keep q xs) ≡ keep (λ x. q x && p x) xs
   keep-keep p q [] = refl
   keep-keep p q (x ∷ xs) =
       elim (q x) as (λ b. keep p (cond b (x ∷ keep q xs) (keep q xs)) ≡ cond (b && p x) (x ∷ keep (λ y. q y && p y) xs) (keep (λ y. q y && p y) xs))
       [ true ↦ rw (keep-keep p q xs) | false ↦ keep-keep p q xs ]
 
+  -- in either order
   pub keep-comm : (p q : A → Bool) (xs : List A) → keep p (keep q xs) ≡ keep q (keep p xs)
   keep-comm p q xs = rw (keep-keep p q xs, keep-keep q p xs) (ap (λ f. keep f xs) (fun-ext λ x. and-comm (q x) (p x)))
 
@@ -33,12 +35,14 @@ module _ {A : Type 0} where
       go false true k = refl
       go false false k = refl
 
+  -- what is kept of two lists is kept of each
   pub keep-append : (p : A → Bool) (xs ys : List A) → keep p (xs ++ ys) ≡ keep p xs ++ keep p ys
   keep-append p [] ys = refl
   keep-append p (x ∷ xs) ys =
       elim (p x) as (λ b. cond b (x ∷ keep p (xs ++ ys)) (keep p (xs ++ ys)) ≡ cond b (x ∷ keep p xs) (keep p xs) ++ keep p ys)
       [ true ↦ rw (keep-append p xs ys) | false ↦ keep-append p xs ys ]
 
+  -- a change that the test does not see
   pub keep-map : (p : A → Bool) (f : A → A) → ((x : A) → p (f x) ≡ p x) → (xs : List A) → keep p (map f xs) ≡ map f (keep p xs)
   keep-map p f h [] = refl
   keep-map p f h (x ∷ xs) =
@@ -55,6 +59,7 @@ module _ {A : Type 0} where
       go true k e = rw (k refl, e)
       go false k e = e
 
+  -- where all pass, all are kept
   pub keep-every : (p : A → Bool) (xs : List A) → every p xs ≡ true → keep p xs ≡ xs
   keep-every p [] h = refl
   keep-every p (x ∷ xs) h = go (p x) h (keep-every p xs)
@@ -63,6 +68,7 @@ module _ {A : Type 0} where
       go true k e = rw (e k)
       go false k e = absurd (false≢true k)
 
+  -- no more are kept than there are
   pub length-keep : (p : A → Bool) (xs : List A) → length (keep p xs) ≤ length xs
   length-keep p [] = zero-le
   length-keep p (x ∷ xs) = go (p x) (length-keep p xs)
@@ -83,6 +89,7 @@ module _ {A : Type 0} where
 
   -- ---- has
 
+  -- a weaker test drops none that passes
   pub has-keep : (p q : A → Bool) → ((x : A) → p x ≡ true → q x ≡ true) → (xs : List A) → has p (keep q xs) ≡ has p xs
   has-keep p q h [] = refl
   has-keep p q h (x ∷ xs) = go (q x) (p x) refl (h x) (has-keep p q h xs)
@@ -93,10 +100,12 @@ module _ {A : Type 0} where
       go false true e k i = absurd (false≢true (k refl))
       go false false e k i = i
 
+  -- one passes in the first list or in the second
   pub has-append : (p : A → Bool) (xs ys : List A) → has p (xs ++ ys) ≡ (has p xs || has p ys)
   has-append p [] ys = refl
   has-append p (x ∷ xs) ys = rw (has-append p xs ys) (sym (or-assoc (p x) (has p xs) (has p ys)))
 
+  -- one passes this test or that one
   pub has-or : (p q : A → Bool) (xs : List A) → has (λ x. p x || q x) xs ≡ (has p xs || has q xs)
   has-or p q [] = refl
   has-or p q (x ∷ xs) = rw (has-or p q xs) (go (p x) (q x) (has p xs))
@@ -118,6 +127,7 @@ module _ {A : Type 0} where
 
   -- ---- every
 
+  -- all fail exactly where none passes
   pub every-not : (p : A → Bool) (xs : List A) → every (λ x. not (p x)) xs ≡ not (has p xs)
   every-not p [] = refl
   every-not p (x ∷ xs) = rw (every-not p xs) (go (p x))
@@ -126,6 +136,7 @@ module _ {A : Type 0} where
       go true = refl
       go false = refl
 
+  -- what all pass, those kept do
   pub every-keep : (p q : A → Bool) (xs : List A) → every p xs ≡ true → every p (keep q xs) ≡ true
   every-keep p q [] h = refl
   every-keep p q (x ∷ xs) h = go (q x) (p x) refl h (every-keep p q xs)
@@ -136,6 +147,7 @@ module _ {A : Type 0} where
       go true false e k i = absurd (false≢true k)
       go false false e k i = absurd (false≢true k)
 
+  -- what is kept passes
   pub every-kept : (p : A → Bool) (xs : List A) → every p (keep p xs) ≡ true
   every-kept p [] = refl
   every-kept p (x ∷ xs) = go (p x) refl (every-kept p xs)
@@ -144,6 +156,7 @@ module _ {A : Type 0} where
       go true e i = rw (e, i)
       go false e i = i
 
+  -- all of both lists pass where all of each do
   pub every-append : (p : A → Bool) (xs ys : List A) → every p (xs ++ ys) ≡ (every p xs && every p ys)
   every-append p [] ys = refl
   every-append p (x ∷ xs) ys = rw (every-append p xs ys) (sym (and-assoc (p x) (every p xs) (every p ys)))
@@ -155,12 +168,14 @@ module _ {A : Type 0} where
       let e = and-eq-true-iff (p x) (every p xs) .0 k in
       rw (h x (e .0), every-map p q f h xs (e .1))
 
+  -- what passes a test passes a weaker one
   pub every-sub : (p q : A → Bool) → ((x : A) → p x ≡ true → q x ≡ true) → (xs : List A) → every p xs ≡ true → every q xs ≡ true
   every-sub p q h [] k = refl
   every-sub p q h (x ∷ xs) k =
       let e = and-eq-true-iff (p x) (every p xs) .0 k in
       rw (h x (e .0), every-sub p q h xs (e .1))
 
+  -- what all pass one by one, all pass together
   pub every-and : (p q : A → Bool) (xs : List A) → every p xs ≡ true → every q xs ≡ true → every (λ x. p x && q x) xs ≡ true
   every-and p q [] h k = refl
   every-and p q (x ∷ xs) h k =
@@ -168,6 +183,7 @@ module _ {A : Type 0} where
       let b = and-eq-true-iff (q x) (every q xs) .0 k in
       rw (a .0, b .0, every-and p q xs (a .1) (b .1))
 
+  -- what all pass, the first n do
   pub every-take : (p : A → Bool) (n : ℕ) (xs : List A) → every p xs ≡ true → every p (take n xs) ≡ true
   every-take p zero xs h = refl
   every-take p (suc n) [] h = refl
@@ -177,9 +193,11 @@ module _ {A : Type 0} where
 
   -- a loop that tests element after element: what it has seen so far, and the elements from i on
   module _ (p : A → Bool) (xs : List A) (i : ℕ) (so-far : Bool) where
+    -- one element more
     pub every-next : (d : A) → i < length xs → (so-far && every p (drop i xs)) ≡ ((so-far && p (getD xs i d)) && every p (drop (i + 1) xs))
     every-next d h = rw (drop-cons xs i d h, add-one) (sym (and-assoc so-far (p (getD xs i d)) (every p (drop (suc i) xs))))
 
+    -- none is left
     pub every-end : length xs ≤ i → so-far ≡ (so-far && every p (drop i xs))
     every-end h = rw (drop-of-length-le xs {i = i} h) (sym (and-true so-far))
 
@@ -198,20 +216,24 @@ every-has p n (x ∷ xs) h k =
 
 -- ---- from
 
+-- a row in two parts
 pub from-append : (s a b : ℕ) → from s (a + b) ≡ from s a ++ from (s + a) b
 from-append s zero b = rw (zero-add, add-zero)
 from-append s (suc a) b = rw (suc-add, from-append (s + 1) a b, add-assoc s 1 a, one-add)
 
 -- one number more
-pub from-next : (s n : ℕ) → from s (n + 1) ≡ from s n ++ ((s + n) ∷ [])
+from-next : (s n : ℕ) → from s (n + 1) ≡ from s n ++ ((s + n) ∷ [])
 from-next s n = from-append s n 1
 
+-- what a test keeps of one number more
 pub keep-from-next : (p : ℕ → Bool) (s n : ℕ) → keep p (from s (n + 1)) ≡ keep p (from s n) ++ cond (p (s + n)) ((s + n) ∷ []) []
 keep-from-next p s n = rw (from-next, keep-append)
 
+-- and whether all pass it
 pub every-from-next : (p : ℕ → Bool) (s n : ℕ) → every p (from s (n + 1)) ≡ (every p (from s n) && p (s + n))
 every-from-next p s n = rw (from-next, every-append, and-true)
 
+-- each number of the row is in it
 pub has-from : (s n x : ℕ) → s ≤ x → x < s + n → has (eqb x) (from s n) ≡ true
 has-from s zero x l k = absurd (omega arith)
 has-from s (suc n) x l k = go (eqb x s) refl (λ m. has-from (s + 1) n x m (omega arith))
@@ -220,16 +242,19 @@ has-from s (suc n) x l k = go (eqb x s) refl (λ m. has-from (s + 1) n x m (omeg
     go true e rest = refl
     go false e rest = let d = eqb-false x s e in rest (omega arith)
 
+-- what each number of the row passes, all do
 pub every-from : (p : ℕ → Bool) (s n : ℕ) → ((x : ℕ) → s ≤ x → x < s + n → p x ≡ true) → every p (from s n) ≡ true
 every-from p s zero h = refl
 every-from p s (suc n) h = rw (h s (omega arith) (omega arith), every-from p (s + 1) n (λ x l k. h x (omega arith) (omega arith)))
 
 -- two tests that agree on the row
 module _ (p q : ℕ → Bool) where
+  -- they keep the same of it
   pub keep-from-agree : (s n : ℕ) → ((x : ℕ) → s ≤ x → x < s + n → p x ≡ q x) → keep p (from s n) ≡ keep q (from s n)
   keep-from-agree s zero h = refl
   keep-from-agree s (suc n) h = rw (h s (omega arith) (omega arith), keep-from-agree (s + 1) n (λ x l k. h x (omega arith) (omega arith)))
 
+  -- and all pass the one where all pass the other
   pub every-from-agree : (s n : ℕ) → ((x : ℕ) → s ≤ x → x < s + n → p x ≡ q x) → every p (from s n) ≡ every q (from s n)
   every-from-agree s zero h = refl
   every-from-agree s (suc n) h = rw (h s (omega arith) (omega arith), every-from-agree (s + 1) n (λ x l k. h x (omega arith) (omega arith)))

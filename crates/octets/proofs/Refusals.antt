@@ -95,10 +95,12 @@ firstOf-is-last n (x ∷ xs) b h z e =
 -- ---- answer
 
 module _ {A : Type 0} (accepted : A) (refused : ℕ → A) where
+  -- a refused call gives what its number calls for
   pub answer-refused : {n m : ℕ} → n ≡ m → (n ≡ 0 → ⊥) → refused n ≡ answer m accepted refused
   unfolding answer
   answer-refused {n} e h = simp (← e, ne-eqb n 0 h)
 
+  -- any other gives the accepted answer
   pub answer-accepted : {m : ℕ} → 0 ≡ m → accepted ≡ answer m accepted refused
   unfolding answer
   answer-accepted e = simp (← e)
@@ -109,6 +111,7 @@ module _ {A : Type 0} (accepted : A) (refused : ℕ → A) where
   answer-elim P zero a r = a refl
   answer-elim P (suc n) a r = simp (eqb·suc-zero n) (r (omega arith))
 
+  -- what is made of an answer is made of either
   pub answer-map : {B : Type 0} (f : A → B) (n : ℕ) → answer n (f accepted) (λ k. f (refused k)) ≡ f (answer n accepted refused)
   unfolding answer
   answer-map f zero = refl
@@ -127,14 +130,17 @@ pub by-test : {X : Type 0} (b : Bool) → (b ≡ true → X) → (b ≡ false �
 by-test true f g = f refl
 by-test false f g = g refl
 
+-- neither holds where not one of them does
 pub or-false : (a b : Bool) → (a || b) ≡ false → (a ≡ false) × (b ≡ false)
 or-false true b h = absurd (true≢false h)
 or-false false b h = (refl, h)
 
+-- what is not outside a range lies in it
 pub outside-false : (lo hi n : ℕ) → outside lo hi n ≡ false → (lo ≤ n) × (n ≤ hi)
 outside-false lo hi n h =
     let p = or-false (ltb n lo) (ltb hi n) h in
     (ltb-false n lo (p .0), ltb-false hi n (p .1))
 
+-- and so does what is within it
 pub within-true : (lo hi n : ℕ) → within lo hi n ≡ true → (lo ≤ n) × (n ≤ hi)
 within-true lo hi n h = outside-false lo hi n (not-true (outside lo hi n) h)

@@ -1,22 +1,24 @@
 -- Laws of `zeros`, of a loop that writes zeros from a place on (the octets half-way, and `zeroFrom` at its end), and of `holdsOnly`. Assumes nothing.
 use Prim.Native.Nat.{ℕ, zero, suc, _+_, _-_, _<_, _≤_}
-use mathlib.Core.Path.{_≡_, refl, ap, _∙_, sym}
+use mathlib.Core.Path.{_≡_, refl, _∙_, sym}
 use mathlib.Core.Bool.{true, and-eq-true-iff}
 use mathlib.Core.List.{List, [], _∷_, _++_, append-assoc, append-nil}
 use native.Mathlib.Numerals.{add-one}
 use native.Mathlib.Omega.{arith}
 use lib.Dec.{eqb}
 use borrow.Author.Tests.{eqb-true}
-use lib.ListN.{length, getD, take, drop, set, replicate, length-append, length-replicate, drop-of-length-le, take-append-drop}
+use lib.ListN.{length, getD, take, drop, set, replicate, length-append, length-replicate, replicate-append-replicate, drop-of-length-le, take-append-drop}
 use lib.Seq.{drop-cons, set-at, length-take-le}
 use Rattle.octets.specs.Octets.{zeros, zeroFrom, holdsOnly}
 
 -- ---- zeros
 
+-- a run of zeros is all zeros
 pub zeros-replicate : (n : ℕ) → zeros (replicate n 0) ≡ true
 zeros-replicate zero = refl
 zeros-replicate (suc n) = zeros-replicate n
 
+-- octets that are all 0 are a run of zeros
 pub zeros-true : (m : List ℕ) → zeros m ≡ true → m ≡ replicate (length m) 0
 zeros-true [] h = refl
 zeros-true (b ∷ m) h =
@@ -31,23 +33,22 @@ zeros-true (b ∷ m) h =
 abbrev pub cleared : ℕ → ℕ → List ℕ → List ℕ
 cleared at i m = take at m ++ (replicate (i - at) 0 ++ drop i m)
 
-replicate-cons : (n : ℕ) (d : List ℕ) → replicate n 0 ++ (0 ∷ d) ≡ 0 ∷ (replicate n 0 ++ d)
-replicate-cons zero d = refl
-replicate-cons (suc n) d = ap (λ l. 0 ∷ l) (replicate-cons n d)
-
+-- where nothing is cleared yet
 pub cleared-none : (at : ℕ) (m : List ℕ) → m ≡ cleared at at m
 cleared-none at m =
     let e : at - at ≡ 0 = omega arith in
     rw e (sym (take-append-drop at m))
 
+-- one octet more
 pub cleared-next : (at i : ℕ) (m w : List ℕ) → at ≤ i → i < length m → w ≡ cleared at i m → set w i 0 ≡ cleared at (i + 1) m
 cleared-next at i m w h l e =
     let p = take at m ++ replicate (i - at) 0 in
     let k : length p ≡ i = rw (length-append, length-replicate, length-take-le at m (omega arith)) (omega arith) in
     let x : w ≡ p ++ (getD m i 0 ∷ drop (suc i) m) = e ∙ rw (drop-cons m i 0 l, append-assoc) in
-    let s : i + 1 - at ≡ suc (i - at) = omega arith in
-    rw (x, set-at p (getD m i 0) (drop (suc i) m) 0 i k, append-assoc, replicate-cons, s, add-one)
+    let s : i + 1 - at ≡ i - at + 1 = omega arith in
+    rw (x, set-at p (getD m i 0) (drop (suc i) m) 0 i k, s, ← replicate-append-replicate {A = ℕ} (i - at) 1 0, add-one) (simp append-assoc)
 
+-- at the end of the memory nothing is left to clear
 pub cleared-all : (at i : ℕ) (m w : List ℕ) → length m ≤ i → i - at ≤ length m - at → w ≡ cleared at i m → w ≡ zeroFrom at m
 cleared-all at i m w h k e =
     let s : i - at ≡ length m - at = omega arith in
@@ -55,6 +56,7 @@ cleared-all at i m w h k e =
 
 -- ---- holdsOnly
 
+-- the list keeps its length
 pub length-holdsOnly : (places : ℕ) (xs : List ℕ) → length xs ≤ places → length (holdsOnly places xs) ≡ places
 length-holdsOnly places xs h = rw (length-append, length-replicate) (omega arith)
 

@@ -12,10 +12,12 @@ use Rattle.record.specs.Record.{size, widths, fields, made, littles, num
 
 -- ---- numbers of any widths
 
+-- how many octets some widths take
 total : List ℕ → ℕ
 total [] = 0
 total (w ∷ ws) = w + total ws
 
+-- numbers that fit come back from their octets
 numbers-littles : (ws ns after : List ℕ) → Fit ws ns → numbers ws (littles ws ns ++ after) ≡ ns
 unfolding numbers littles
 numbers-littles [] [] after h = refl
@@ -32,10 +34,12 @@ numbers-littles (w ∷ ws) (n ∷ ns) after h =
       numbers-littles ws ns after (h .1),
     )
 
+-- the first w octets come back from their number
 little-number-take : (w : ℕ) (bs : List ℕ) → AreOctets bs → w ≤ length bs → little w (number (take w bs)) ≡ take w bs
 little-number-take w bs h fits =
     ap (λ (k : ℕ). little k (number (take w bs))) (sym (length-take-le w bs fits)) ∙ little-number (take w bs) (are-octets-take w bs h)
 
+-- octets come back from their numbers
 littles-numbers : (ws bs : List ℕ) → AreOctets bs → total ws ≤ length bs → littles ws (numbers ws bs) ≡ take (total ws) bs
 unfolding numbers littles total
 littles-numbers [] bs h fits = refl
@@ -56,14 +60,17 @@ numbers-append (w ∷ ws) bs after h =
 
 -- ---- encode and decode
 
+-- a record has twelve octets
 pub length-encode : (r : Rec) → length (encode r) ≡ size
 unfolding encode littles fields size
 length-encode r = simp (length-append, length-little)
 
+-- a record that fits comes back from its octets, whatever follows them
 pub decode-encode : (r : Rec) (after : List ℕ) → FitRec r → decode (encode r ++ after) ≡ r
 unfolding decode encode made fields
 decode-encode r after h = ap made (numbers-littles widths (fields r) after h)
 
+-- twelve octets come back from their record
 pub encode-decode : (m : List ℕ) → AreOctets m → size ≤ length m → encode (decode m) ≡ take size m
 unfolding decode encode made fields numbers size total
 encode-decode m h fits = littles-numbers widths m h fits

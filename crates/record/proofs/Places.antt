@@ -17,6 +17,7 @@ use Rattle.record.proofs.Views.{capacity-fits, same-capacity, image-app
 
 -- ---- reading record i
 
+-- record i of the first n says what its octets do
 getD-views : (n : ℕ) (m : List ℕ) (i : ℕ) (d : Rec) → i < n → getD (views n m) i d ≡ decode (drop (i * size) m)
 unfolding views
 getD-views zero m i d h = absurd (omega arith)
@@ -24,7 +25,8 @@ getD-views (suc n) m zero d h = rw zero-mul
 getD-views (suc n) m (suc i) d h =
     rw (getD-views n (drop size m) i d (omega arith), drop-drop (i * size) size m, suc-mul i size, add-comm size (i * size))
 
-pub at-view : (m : List ℕ) (i : ℕ) → i < capacity m
+-- its numbers, each at its place
+at-view : (m : List ℕ) (i : ℕ) → i < capacity m
     → getD (view m) i blank ≡ made (
     numberAt 4 m (i * size)
     ∷ numberAt 4 m (i * size + 4)
@@ -61,6 +63,7 @@ at-octets m i h =
 
 -- ---- writing record i
 
+-- octets of a record written at place i: of the first n records, that one is set
 set-views : (n : ℕ) (m : List ℕ) (i : ℕ) (r : Rec) → FitRec r → i < n → n * size ≤ length m
     → views n (take (i * size) m ++ (encode r ++ drop (i * size + size) m)) ≡ set (views n m) i r
 unfolding views
@@ -81,23 +84,27 @@ set-views (suc n) m (suc i) r h l fits =
     )
     (ap (λ (x : Rec). x ∷ set (views n m′) i r) (decode-take m after (omega arith)))
 
+-- octets written over, as what stands before and after them
 sets-encode : (m : List ℕ) (i : ℕ) (r : Rec) → i < capacity m
     → sets m (i * size) (encode r) ≡ take (i * size) m ++ (encode r ++ drop (i * size + size) m)
 sets-encode m i r h =
     let l : i * size + length (encode r) ≤ length m = rw (length-encode r) (unfold capacity size in omega arith) in
     sets-eq (encode r) m (i * size) l ∙ rw (length-encode r, append-assoc)
 
-pub set-view : (m : List ℕ) (i : ℕ) (r : Rec) → FitRec r → i < capacity m → view (sets m (i * size) (encode r)) ≡ set (view m) i r
+-- so of all records
+set-view : (m : List ℕ) (i : ℕ) (r : Rec) → FitRec r → i < capacity m → view (sets m (i * size) (encode r)) ≡ set (view m) i r
 unfolding view
 set-view m i r h l =
     rw (same-capacity (sets m (i * size) (encode r)) m (rw length-sets), sets-encode m i r l) (set-views (capacity m) m i r h l (capacity-fits m))
 
 -- ---- put
 
-pub put-at : (m : List ℕ) (i : ℕ) (r : Rec) → i < capacity m → put m i r ≡ sets m (i * size) (encode r)
+-- in the memory, the octets of the record are written
+put-at : (m : List ℕ) (i : ℕ) (r : Rec) → i < capacity m → put m i r ≡ sets m (i * size) (encode r)
 unfolding put
 put-at m i r h = rw (lt-ltb i (capacity m) h)
 
+-- past its last record, nothing is
 pub put-out : (m : List ℕ) (i : ℕ) (r : Rec) → capacity m ≤ i → put m i r ≡ m
 unfolding put
 put-out m i r h = rw (le-ltb i (capacity m) h)
@@ -117,6 +124,7 @@ abbrev pub writes : List (ℕ × ℕ) → List ℕ → List ℕ
 writes [] m = m
 writes (w ∷ ws) m = writes ws (set m (w .0) (w .1))
 
+-- twelve such writes put a record's octets
 pub writes-octets : (m : List ℕ) (a : ℕ) (r : Rec) (s f : List ℕ) → FitRec r → s ≡ little 4 (r .station) → f ≡ little 4 (r .first)
     → writes
     ((a, getD s 0 0) ∷ (a + 1, getD s 1 0) ∷ (a + 2, getD s 2 0) ∷ (a + 3, getD s 3 0)

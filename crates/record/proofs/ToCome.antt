@@ -14,8 +14,10 @@ use Rattle.record.proofs.Views.{length-view}
 abbrev pub toCome : ℕ → ℕ → List ℕ → List Rec
 toCome i n m = slice i n (view m)
 
+-- record i, and those after it
 pub toCome-next : (i n : ℕ) (m : List ℕ) → i < n → n ≤ capacity m → toCome i n m ≡ getD (view m) i blank ∷ toCome (i + 1) n m
 toCome-next i n m h k = rw add-one (slice-cons i n (view m) blank h (rw length-view k))
 
+-- none is left
 pub toCome-none : (i n : ℕ) (m : List ℕ) → n ≤ i → toCome i n m ≡ []
 toCome-none i n m h = drop-of-length-le (take n (view m)) {i = i} (omega (arith, length-take n (view m)))

@@ -9,7 +9,7 @@ ghost use Rattle.record.specs.Claims.{Claims};
 // The octets of a record.
 const SIZE: usize = 12;
 
-// A record of the table.
+// A record of the table. It is laid out as in C: it crosses to a C host as it is.
 #[repr(C)]
 pub struct Rec {
     pub station: u32,

@@ -1,5 +1,5 @@
 -- Which slots a block holds, and where none of a superframe's does. Assumes nothing.
-use Prim.Native.Nat.{ℕ, _+_, _-_, _*_, _≤_, _<_}
+use Prim.Native.Nat.{ℕ, _+_, _-_, _*_, _/_, _≤_, _<_}
 use native.Mathlib.Nat.{mul-le-mul-right, lt-of-mul-lt-mul-right, eq-or-lt-of-le}
 use native.Mathlib.Omega.{arith}
 use mathlib.Core.Path.{_≡_, refl, sym}
@@ -9,6 +9,8 @@ use lib.Dec.{leb, ltb}
 use borrow.Author.Tests.{leb-true, leb-false, ltb-true, le-leb, lt-ltb, lt-leb, le-ltb}
 use Rattle.series.specs.Series.{someBelow, inBlock}
 use Rattle.series.proofs.SomeBelow.{someBelow-at, someBelow-rest}
+
+-- ---- one block
 
 -- a block that started and isn't over holds the slot
 pub inBlock-true : (from length slot : ℕ) → from ≤ slot → slot < from + length → inBlock from length slot ≡ true
@@ -32,24 +34,30 @@ pub inBlock-over : (from length slot : ℕ) → from + length ≤ slot → inBlo
 unfolding inBlock
 inBlock-over from length slot h = rw (le-leb from slot (omega arith), le-ltb slot (from + length) h)
 
+-- ---- the blocks of a superframe
+
 module _ (base spacing length slot : ℕ) where
+  -- block j holds the slot
+  abbrev pub blockHolds : ℕ → Bool
+  blockHolds j = inBlock (base + j * spacing) length slot
+
   -- starts ascend: those after one that is past the slot are past it too
-  later-past : (j i : ℕ) → slot < base + j * spacing → j ≤ i → inBlock (base + i * spacing) length slot ≡ false
+  later-past : (j i : ℕ) → slot < base + j * spacing → j ≤ i → blockHolds i ≡ false
   later-past j i h l =
       let a : j * spacing ≤ i * spacing = mul-le-mul-right spacing l in
       inBlock-past (base + i * spacing) length slot (omega arith)
 
   -- no block of a superframe that starts past the slot holds it
-  pub none-ahead : (rate : ℕ) → slot < base → someBelow rate (λ j. inBlock (base + j * spacing) length slot) ≡ false
+  pub none-ahead : (rate : ℕ) → slot < base → someBelow rate blockHolds ≡ false
   unfolding someBelow
   none-ahead rate h =
-      someBelow-rest rate (λ j. inBlock (base + j * spacing) length slot) 0 (omega arith) refl (λ i a b. inBlock-past (base + i * spacing) length slot (omega arith))
+      someBelow-rest rate blockHolds 0 (omega arith) refl (λ i a b. inBlock-past (base + i * spacing) length slot (omega arith))
 
   -- nor of one whose last block is over before it
-  pub none-over : (rate : ℕ) → base + (rate - 1) * spacing + length ≤ slot → someBelow rate (λ j. inBlock (base + j * spacing) length slot) ≡ false
+  pub none-over : (rate : ℕ) → base + (rate - 1) * spacing + length ≤ slot → someBelow rate blockHolds ≡ false
   unfolding someBelow
   none-over rate h =
-      someBelow-rest rate (λ j. inBlock (base + j * spacing) length slot) 0 (omega arith) refl (λ i a b.
+      someBelow-rest rate blockHolds 0 (omega arith) refl (λ i a b.
       let m : i * spacing ≤ (rate - 1) * spacing = mul-le-mul-right spacing (omega arith) in
       inBlock-over (base + i * spacing) length slot (omega arith))
 
@@ -64,12 +72,16 @@ module _ (base spacing length slot : ℕ) where
       zero e m = let z : j * 0 < (rate - 1) * 0 = rw e m in omega arith
 
   -- the first block that is not over before the slot tells whether one holds it
-  pub first-tells : (rate j : ℕ) → j < rate → someBelow j (λ i. inBlock (base + i * spacing) length slot) ≡ false → slot < base + j * spacing + length
-      → leb (base + j * spacing) slot ≡ someBelow rate (λ i. inBlock (base + i * spacing) length slot)
+  pub first-tells : (rate j : ℕ) → j < rate → someBelow j blockHolds ≡ false → slot < base + j * spacing + length
+      → leb (base + j * spacing) slot ≡ someBelow rate blockHolds
   first-tells rate j l h e = go (leb (base + j * spacing) slot) refl
     where
-      go : (b : Bool) → leb (base + j * spacing) slot ≡ b → b ≡ someBelow rate (λ i. inBlock (base + i * spacing) length slot)
+      go : (b : Bool) → leb (base + j * spacing) slot ≡ b → b ≡ someBelow rate blockHolds
       go true t =
-          sym (someBelow-at rate (λ i. inBlock (base + i * spacing) length slot) j l (inBlock-true (base + j * spacing) length slot (leb-true (base + j * spacing) slot t) e))
+          sym (someBelow-at rate blockHolds j l (inBlock-true (base + j * spacing) length slot (leb-true (base + j * spacing) slot t) e))
       go false t =
-          sym (someBelow-rest rate (λ i. inBlock (base + i * spacing) length slot) j (omega arith) h (λ i a _. later-past j i (leb-false (base + j * spacing) slot t) a))
+          sym (someBelow-rest rate blockHolds j (omega arith) h (λ i a _. later-past j i (leb-false (base + j * spacing) slot t) a))
+
+-- superframe k of a record's numbers holds the slot
+abbrev pub superframeHolds : ℕ → ℕ → ℕ → ℕ → ℕ → ℕ → Bool
+superframeHolds first m1 rate length slot k = someBelow rate (blockHolds (first + k * m1) (m1 / rate) length slot)

@@ -2,5 +2,6 @@
 use mathlib.Core.Path.{refl}
 use Rattle.series.specs.Claims.{Spacing}
 
+-- the seven starts
 pub spacing : Spacing
 spacing = refl

@@ -1,23 +1,21 @@
 -- Laws of `someBelow`. Assumes nothing.
 use Prim.Native.Nat.{ℕ, zero, suc, _+_, _<_, _≤_}
 use mathlib.Core.Path.{_≡_, refl}
-use mathlib.Core.Bool.{Bool, true, false, _||_, false≢true}
+use mathlib.Core.Bool.{Bool, true, false, _||_, or-true, false≢true}
 use mathlib.Core.Logic.{⊎-elim}
 use native.Mathlib.Numerals.{add-one}
 use native.Mathlib.Omega.{arith}
 use native.Mathlib.Nat.{eq-or-lt-of-le}
 use Rattle.series.specs.Series.{someBelow}
 
-or-true : (b : Bool) → (b || true) ≡ true
-or-true true = refl
-or-true false = refl
-
+-- one that passes is enough
 pub someBelow-at : (n : ℕ) (p : ℕ → Bool) (k : ℕ) → k < n → p k ≡ true → someBelow n p ≡ true
 unfolding someBelow
 someBelow-at zero p k l h = absurd (omega arith)
 someBelow-at (suc n) p k l h =
     ⊎-elim (λ (e : k ≡ n). rw (← e, h) (or-true (someBelow k p))) (λ (e : k < n). rw (someBelow-at n p k e h)) (eq-or-lt-of-le (omega arith))
 
+-- none below n passes, nor does n
 pub someBelow-more : (n : ℕ) (p : ℕ → Bool) → someBelow n p ≡ false → p n ≡ false → someBelow (n + 1) p ≡ false
 unfolding someBelow
 someBelow-more n p h e = rw (add-one, h, e)

@@ -7,6 +7,7 @@ use Rattle.octets.proofs.Refusals.{within-true}
 use Rattle.record.specs.declared.Rec.{Rec}
 use Rattle.sound.specs.Sound.{inRange}
 
+-- the ranges, one by one
 pub record Ranges (r : Rec) : Type 0 where
   pub station : r .station < 2 ^ 27
   pub first : r .first ≤ 1_000_000_255
@@ -15,6 +16,7 @@ pub record Ranges (r : Rec) : Type 0 where
   pub length : (1 ≤ r .length) × (r .length ≤ 32)
   pub far : r .far ≤ 1
 
+-- a record that is in range has all of them
 pub ranges : (r : Rec) → inRange r ≡ true → Ranges r
 unfolding inRange
 ranges r h =

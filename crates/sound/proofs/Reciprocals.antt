@@ -29,6 +29,7 @@ exact m d x hm h1 h60 lo hi =
     omega arith
 
 module _ (xs : List ℕ) (all : areReciprocals xs ≡ true) where
+  -- at each place stands its reciprocal
   at-place : (k : ℕ) → k < 60 → isReciprocal (k + 1) (getD xs (k + 1) 0) ≡ true
   unfolding areReciprocals
   at-place k h = go (isReciprocal (k + 1) (getD xs (k + 1) 0)) refl
@@ -41,6 +42,7 @@ module _ (xs : List ℕ) (all : areReciprocals xs ≡ true) where
       go false e = absurd (false≢true (sym (not-true (someBelow 60 wrong) all) ∙ someBelow-at 60 wrong k h (rw e)))
 
   module _ (rate : ℕ) (least : 1 ≤ rate) (most : rate ≤ 60) where
+    -- a rate times its reciprocal is less than the rate above 2^31
     over : (2147483648 ≤ rate * getD xs rate 0) × (rate * getD xs rate 0 < 2147483648 + rate)
     over =
         let x : ℕ = getD xs rate 0 in
@@ -49,14 +51,17 @@ module _ (xs : List ℕ) (all : areReciprocals xs ≡ true) where
         let p = and-eq-true-iff (leb 2147483648 (rate * x)) (ltb (rate * x) (2147483648 + rate)) .0 t in
         (leb-true 2147483648 (rate * x) (p .0), ltb-true (rate * x) (2147483648 + rate) (p .1))
 
+    -- no reciprocal is higher
     pub reciprocal-most : getD xs rate 0 ≤ 2147483708
     reciprocal-most =
         let h : 1 * getD xs rate 0 ≤ rate * getD xs rate 0 = mul-le-mul-right (getD xs rate 0) least in
         omega (arith, over .1)
 
     module _ (m : ℕ) (low : m ≤ 15360) where
+      -- nor any product with one
       pub product-most : m * getD xs rate 0 ≤ 15360 * 2147483708
       product-most = mul-le-mul low reciprocal-most
 
+      -- the product over 2^31 is the quotient by the rate
       pub product-over : m * getD xs rate 0 / 2147483648 ≡ m / rate
       product-over = exact m rate (getD xs rate 0) low least most (over .0) (over .1)

@@ -17,6 +17,7 @@ use Rattle.record.specs.Record.{size, capacity, whole, rest, view}
 use Rattle.record.proofs.Views.{whole-length, length-view}
 use Rattle.sound.specs.Sound.{Channel, records, numbersFit, good, sound}
 
+-- what holds of a sound table
 pub record Held (m : Channel) : Type 0 where
   pub capacity-fits : within 1 2048 (capacity (m .memory)) ≡ true
   pub capacity-most : capacity (m .memory) ≤ 2048
@@ -33,6 +34,7 @@ pub tail-length : (n cap k : ℕ) → n ≡ cap * size → n - k * size ≡ (cap
 unfolding size
 tail-length n cap k e = omega arith
 
+-- there are as many records as the count says
 count-records : (m : Channel) → m .count ≤ capacity (m .memory) → length (records m) ≡ m .count
 unfolding records
 count-records m h = length-take-le (m .count) (view (m .memory)) (rw length-view h)
@@ -51,12 +53,14 @@ numbers-fit m h =
       leb-true (m .count) (capacity (m .memory)) (p .1),
     )
 
+-- no M1 that fits is above 15,360
 pub m1-most : (m : Channel) → numbersFit m ≡ true → m .m1 ≤ 15360
 unfolding Parameters.fits
 m1-most m h =
     let p = and-eq-true-iff (within 60 15360 (m .m1)) (eqb ((m .m1 - 60) % 60) 0) .0 (numbers-fit m h .2) in
     within-true 60 15360 (m .m1) (p .0) .1
 
+-- a table that is sound has all of it
 pub held : (m : Channel) → sound m ≡ true → Held m
 unfolding sound
 held m h =

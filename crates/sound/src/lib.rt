@@ -12,6 +12,7 @@ ghost use Rattle.series.specs.Series.{lastSlot};
 ghost use Rattle.sound.specs.Sound.{sizeFits, numbersFit, inRange, good, sound};
 ghost use Rattle.sound.specs.Steps.{areReciprocals};
 
+// Whether x lies in lo..hi.
 fn in_range(lo: u32, hi: u32, x: u32) -> bool
     ensures { λ b. ⌜ b ≡ within lo hi x ⌝ }
 {
@@ -20,7 +21,7 @@ fn in_range(lo: u32, hi: u32, x: u32) -> bool
     !(low | high)
 }
 
-// The ranges are tested here, and on widened octets: apart from the sum, or as octets, they become vector code, which is slower.
+// Whether a record is good. The ranges are tested here, and on widened octets: apart from the sum, or as octets, they become vector code, which is slower.
 fn is_good(r: Rec, m1: u32, time: u32, reciprocals: &[u32; 61]) -> bool
     requires { ⌜ (m1 ≤ 15360) × (areReciprocals (now reciprocals) ≡ true) ⌝ }
     ensures { λ b. ⌜ b ≡ good m1 time r ⌝ }

@@ -3,7 +3,7 @@ ghost use mathlib.Core.Path.{_≡_};
 ghost use Rattle.tally.specs.Calls.{oneMore, counted};
 ghost use Rattle.tally.specs.Claims.{Claims};
 
-// How many calls were accepted and how many refused, each up to the largest u32.
+// How many calls were accepted and how many refused, each up to the largest u32. It is laid out as in C: a C host lends it as it is.
 #[repr(C)]
 pub struct Tally {
     pub accepted: u32,

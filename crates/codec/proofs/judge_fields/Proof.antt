@@ -15,6 +15,7 @@ use Rattle.codec.proofs.judge_fields.Tie as tie
 bo-fits : (c : tie.After-struct-told) → SFits w32 (c .before .args .b .bo)
 bo-fits c = record { sfits = c .struct-told .given .1 .1 .1 .1 .1 .0 .1 }
 
+-- the block that is judged
 abbrev block : tie.Else1 → Block
 block c = c .before .before .before .args .b
 

@@ -12,6 +12,7 @@ use Rattle.octets.proofs.Lists.{every-next, every-end}
 use Rattle.codec.proofs.none_above_60.Statement.{statement}
 use Rattle.codec.proofs.none_above_60.Tie as tie
 
+-- an entry that is not above 60
 abbrev low : ℕ → Bool
 low x = leb x 60
 

@@ -6,10 +6,11 @@ use denote.Ref.{now}
 use borrow.Author.Needs.{needs}
 use Rattle.octets.proofs.Refusals.{answer-refused}
 use Rattle.codec.specs.Rates.{badList}
-use Rattle.codec.proofs.Rates.{good-length, rate-7, rate-3-high, rate-entry}
+use Rattle.codec.proofs.Rates.{badList-false, rate-7, rate-3-high, rate-entry}
 use Rattle.codec.proofs.rate.Statement.{statement}
 use Rattle.codec.proofs.rate.Tie as tie
 
+-- the list is not bad
 good-list : (c : tie.Else1) → badList (now (c .before .before .before .args .rates)) ≡ false
 good-list c = sym (c .before .bad-list .ensures) ∙ c .if1 .left
 
@@ -33,7 +34,7 @@ returns-2 c =
     ∙ answer-refused _ _ (rate-3-high _ _ (good-list (c .before .before)) (c .before .if2 .taken)) (omega arith)
 
 shared-slice-read-entry : tie.Need-shared-slice-read-entry
-shared-slice-read-entry c = omega (arith, c .before .if2 .left, good-length _ (good-list (c .before .before)))
+shared-slice-read-entry c = omega (arith, c .before .if2 .left, badList-false _ (good-list (c .before .before)) .0)
 
 judge-entry-requires : tie.Need-judge-entry-requires
 judge-entry-requires c κs = search needs

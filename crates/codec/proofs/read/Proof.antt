@@ -1,6 +1,8 @@
 -- `codec::read` meets its contract: each answer by the law for its refusal; what an octet says of its field. Assumes nothing.
+use Prim.Native.Nat.{ℕ}
 use mathlib.Core.Path.{_≡_, sym, _∙_, ap}
 use mathlib.Core.Bool.{false}
+use mathlib.Core.List.{List}
 use native.Mathlib.Omega.{arith}
 use denote.Ref.{now}
 use borrow.Author.Needs.{needs}
@@ -15,26 +17,33 @@ use Rattle.codec.proofs.Complement.{octet-offset}
 use Rattle.codec.proofs.read.Statement.{statement}
 use Rattle.codec.proofs.read.Tie as tie
 
--- what the octets hold
+-- the octets that are read
+abbrev octets : tie.Else2 → List ℕ
+octets c = now (c .before .before .before .before .before .args .octets)
+
+-- the fields in them
 abbrev block : tie.Else2 → Block
-block c = blockOf (now (c .before .before .before .before .before .args .octets))
+block c = blockOf (octets c)
 
 -- nine octets with the right extended ID are refused by their fields
-by-fields : (c : tie.Else2) → firstOf (fieldTests (block c)) ≡ firstOf (readTests (now (c .before .before .before .before .before .args .octets)))
+by-fields : (c : tie.Else2) → firstOf (fieldTests (block c)) ≡ firstOf (readTests (octets c))
 by-fields c = read-fields _ (c .before .before .before .if1 .left) (sym (c .before .extended-id .ensures) ∙ c .if2 .left)
 
+-- past its test, the code is good
 good-code : (c : tie.Else3) → badCode (block (c .before .before .before .before) .br) ≡ false
 good-code c = ap badCode (sym (c .before .before .rate-code .ensures)) ∙ sym (c .before .bad-code .ensures) ∙ c .if3 .left
 
+-- and so is roff
 good-roff : (c : tie.Else4) → outside 2 255 (block (c .before .before .before .before .before .before) .roff) ≡ false
 good-roff c = octet-inside _ (c .if4 .left) (omega (arith, c .before .shared-slice-known4 .given 4))
 
+-- and so is bs
 good-bs : (c : tie.Else5) → outside 2 255 (block (c .before .before .before .before .before .before .before .before) .bs) ≡ false
 good-bs c = octet-inside _ (c .if5 .left) (omega (arith, c .before .shared-slice-known5 .given 6))
 
 -- of the octets of an offset, only 128 is bad
-offset : (c : tie.After-shared-slice-known6) → badOffset (block (c .before .before .before .before .before .before .before .before .before) .bo) ≡ eqb (octet 8 (now (c .before .before .before .before .before .before .before .before .before .before .before .before .before .before .args .octets))) 128
-offset c = octet-offset (octet 8 (now (c .before .before .before .before .before .before .before .before .before .before .before .before .before .before .args .octets))) (omega (arith, c .shared-slice-known6 .given 7))
+offset : (c : tie.After-shared-slice-known6) → badOffset (block (c .before .before .before .before .before .before .before .before .before) .bo) ≡ eqb (octet 8 (octets (c .before .before .before .before .before .before .before .before .before))) 128
+offset c = octet-offset (octet 8 (octets (c .before .before .before .before .before .before .before .before .before))) (omega (arith, c .shared-slice-known6 .given 7))
 
 refused-reading-requires : tie.Need-refused-reading-requires
 refused-reading-requires c κs = search needs
@@ -159,7 +168,7 @@ returns-7 c =
     let three = four .before .before in
     let two = three .before .before .before .before in
     let good = offset (six .before) ∙ ne-eqb _ _ (six .if6 .left) in
-    ap (λ (b : Block). record { refusal = 0; block = b }) (c .fields .ensures)
+    ap (λ (b : Block). record { refusal = 0; block = b }) {y = block two} (c .fields .ensures)
     ∙ answer-accepted _ _ (field-0 (block two) (good-code three) (good-roff four) (good-bs five) good ∙ by-fields two)
 
 pub read-spec : {M : Type 1} → statement M

@@ -7,6 +7,7 @@ use borrow.Author.Needs.{needs}
 use Rattle.codec.proofs.store.Statement.{statement}
 use Rattle.codec.proofs.store.Tie as tie
 
+-- the offset fits its type, so that its bits stand for it
 bo-fits : (c : tie.After-struct-told) → SFits w32 (c .before .before .before .before .before .before .before .before .before .args .b .bo)
 bo-fits c = record { sfits = c .struct-told .given .1 .1 .1 .1 .1 .0 .1 }
 

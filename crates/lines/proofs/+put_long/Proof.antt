@@ -1,4 +1,4 @@
--- `lines::put_long` meets its contract, by recursion on n / 1000: the digits of that, and then three more. The measure is n. Assumes nothing.
+-- `lines::put_long` meets its contract: by recursion, the digits of n / 1000, and then three more. Assumes nothing.
 use Prim.Native.Nat.{ℕ, _/_, _%_, _<_}
 use mathlib.Core.Path.{_≡_}
 use mathlib.Core.List.{_++_}
@@ -18,6 +18,7 @@ use Rattle.lines.proofs.+put_long.Lts-put_long as lts
 use Rattle.lines.proofs.+put_long.{statement}
 use Rattle.lines.proofs.+put_long.Tie.{close}
 
+-- the measure: n
 abbrev μ-put-long : Measures 1 kinds.ps ℕ
 μ-put-long κs a = a .1 .1 .0
 
@@ -36,6 +37,7 @@ module _ (t : ℕ) where
     put-long.Post,
   )
 
+  -- the digits of n, in these two parts
   parts : (s : lts.Start callees given put-long.Post) → decimal (s .args .n) ≡ decimal (s .args .n / 1000) ++ three (s .args .n % 1000)
   parts s = decimal-thousand (s .args .n) (s .pre .1 .0)
 

@@ -1,4 +1,4 @@
--- `lines::put_fields` meets its contract: seven texts one after another. bo is read back from its bits. Assumes nothing.
+-- `lines::put_fields` meets its contract: seven texts one after another; bo's bits stand for it. Assumes nothing.
 use Prim.Native.Nat.{ℕ, _+_, _≤_}
 use mathlib.Core.Path.{_≡_, refl, ap}
 use mathlib.Core.List.{List, [], _∷_, _++_, append-assoc}
@@ -7,7 +7,7 @@ use denote.Ref.{now}
 use lib.ListN.{length, length-append}
 use lib.IntN.{ℤ}
 use mir.Syntax.{w32}
-use mir.Val.{toZ, ofZ}
+use mir.Val.{SFits}
 use mir.Facts.{toZ-ofZ}
 use Rattle.codec.specs.declared.Block.{Block}
 use Rattle.lines.specs.Text.{signed}
@@ -18,9 +18,9 @@ use borrow.Author.Needs.{needs}
 use Rattle.lines.proofs.put_fields.Statement.{statement}
 use Rattle.lines.proofs.put_fields.Tie as tie
 
--- bo is read back from its bits
-bo-same : (c : tie.After-struct-told) → toZ w32 (ofZ w32 (c .before .before .before .before .before .before .before .before .before .before .before .before .before .before .before .before .before .before .before .before .before .before .before .args .b .bo)) ≡ c .before .before .before .before .before .before .before .before .before .before .before .before .before .before .before .before .before .before .before .before .before .before .before .args .b .bo
-bo-same c = toZ-ofZ (record { sfits = c .struct-told .given .1 .1 .1 .1 .1 .0 .1 })
+-- bo fits its type, so that its bits stand for it
+bo-fits : (c : tie.After-struct-told) → SFits w32 (c .before .before .before .before .before .before .before .before .before .before .before .before .before .before .before .before .before .before .before .before .before .before .before .args .b .bo)
+bo-fits c = record { sfits = c .struct-told .given .1 .1 .1 .1 .1 .0 .1 }
 
 -- a signed number, and a space
 abbrev signed-field : ℤ → List ℕ
@@ -56,7 +56,7 @@ put-field-requires-5 : tie.Need-put-field-requires-5
 put-field-requires-5 c κs = record { room = omega (arith, all-fit (c .before .before .before .before .before .before .before .before .before .before .before .before .before .before .before .before .before .before) _ refl) }
 
 put-signed-requires : tie.Need-put-signed-requires
-put-signed-requires c κs = rw (bo-same c) (record { room = omega (arith, all-fit (c .before .before .before .before .before .before .before .before .before .before .before .before .before .before .before .before .before .before .before .before .before .before .before) _ refl) })
+put-signed-requires c κs = rw (toZ-ofZ (bo-fits c)) (record { room = omega (arith, all-fit (c .before .before .before .before .before .before .before .before .before .before .before .before .before .before .before .before .before .before .before .before .before .before .before) _ refl) })
 
 put-field-requires-6 : tie.Need-put-field-requires-6
 put-field-requires-6 c κs =
@@ -64,7 +64,7 @@ put-field-requires-6 c κs =
       room =
           omega (
             arith,
-            ap (λ z. length (signed-field z)) (bo-same (c .before .before .before .before)),
+            ap (λ z. length (signed-field z)) (toZ-ofZ (bo-fits (c .before .before .before .before))),
             all-fit (c .before .before .before .before .before .before .before .before .before .before .before .before .before .before .before .before .before .before .before .before .before .before .before .before .before .before .before) _ refl,
           );
     }
@@ -82,7 +82,7 @@ returns c =
     let c3 = c4 .before .before .before .before in
     let c2 = c3 .before .before .before .before in
     let c1 = c2 .before .before .before .before in
-    let w6 = and-then (rw (bo-same (c6 .before)) at (c6 .put-signed .ensures)) (c7 .put-field6 .ensures) in
+    let w6 = and-then (rw (toZ-ofZ (bo-fits (c6 .before))) at (c6 .put-signed .ensures)) (c7 .put-field6 .ensures) in
     let w5 = and-then (c5 .put-field5 .ensures) w6 in
     let w4 = and-then (c4 .put-field4 .ensures) w5 in
     let w3 = and-then (c3 .put-field3 .ensures) w4 in

@@ -10,15 +10,17 @@ use borrow.Author.Needs.{needs}
 use Rattle.lines.proofs.put_line.Statement.{statement}
 use Rattle.lines.proofs.put_line.Tie as tie
 
+-- the line is no longer than `longest`
 fits : (c : tie.After-shared-slice-known) → length (line (now (c .before .before .args .group))) ≤ longest
 fits c = line-longest (now (c .before .before .args .group)) (λ i. omega (arith, c .shared-slice-known .given i))
 
--- the line is that of the reading's fields, or of its refusal
+-- it is that of the reading's fields
 accepted : (c : tie.Then1) → line (now (c .before .before .before .before .before .args .group)) ≡ fields (c .before .before .read .result .block)
 accepted c =
     let r = c .before .before in
     line-fields (now (r .before .before .before .args .group)) (r .read .result) (r .read .ensures) (c .if1 .taken)
 
+-- or of its refusal
 refused-by : (c : tie.Else1) → line (now (c .before .before .before .before .before .args .group)) ≡ refused (c .before .before .read .result .refusal)
 refused-by c =
     let r = c .before .before in

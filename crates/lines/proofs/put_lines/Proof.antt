@@ -1,4 +1,4 @@
--- `lines::put_lines` meets its contract. The invariant: the lines of the first k groups are put, with at most `longest` octets to a line. The measure is how many groups are left. Assumes nothing.
+-- `lines::put_lines` meets its contract: the lines of the first k groups are put, with at most `longest` octets to a line. Assumes nothing.
 use Prim.Native.Nat.{_*_, _-_, _≤_}
 use mathlib.Core.Path.{_≡_, refl}
 use native.Mathlib.Omega.{arith}

@@ -15,9 +15,11 @@ use borrow.Author.Needs.{needs}
 use Rattle.lines.proofs.put_signed.Statement.{statement}
 use Rattle.lines.proofs.put_signed.Tie as tie
 
+-- what `magnitude` gives
 size : (c : tie.After-magnitude) → c .magnitude .result ≡ natAbs (c .before .before .args .z)
 size c = rw (toZ-ofZ (c .before .before .fits .z)) at (c .magnitude .ensures)
 
+-- what `one_if` gives
 step : (c : tie.After-one-if) → c .one-if .result ≡ cond (ltZ (c .before .before .before .args .z) (pos 0)) 1 0
 step c = rw (toZ-ofZ (c .before .before .before .fits .z)) at (c .one-if .ensures)
 

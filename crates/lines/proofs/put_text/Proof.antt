@@ -1,4 +1,4 @@
--- `lines::put_text` meets its contract. The invariant: the first i octets are put, and `to` is the place after them. The measure is what is left of them. Assumes nothing.
+-- `lines::put_text` meets its contract: the first i octets are put, and `to` is the place after them. Assumes nothing.
 use Prim.Native.Nat.{_-_, _≤_}
 use mathlib.Core.Path.{refl}
 use native.Mathlib.Omega.{arith}

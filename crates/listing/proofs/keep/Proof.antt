@@ -1,4 +1,4 @@
--- `listing::keep` meets its contract. The invariant: the first i octets are moved, and the others are as they were. The measure is how many are left. Assumes nothing.
+-- `listing::keep` meets its contract: the first i octets are moved, and the others are as they were. Assumes nothing.
 use Prim.Native.Nat.{_-_, _≤_}
 use mathlib.Core.Path.{_≡_, refl}
 use native.Mathlib.Omega.{arith}

@@ -1,4 +1,4 @@
--- `listing::list_input` is safe and ends. The invariant: less than nine octets are held, and the buffers keep their lengths. The measure is how many turns are left. Assumes nothing.
+-- `listing::list_input` is safe and ends: fewer than nine octets are held, and the buffers keep their lengths. Assumes nothing.
 use Prim.Native.Nat.{_<_}
 use mathlib.Core.Path.{_≡_}
 use native.Mathlib.Omega.{arith}

@@ -12,6 +12,7 @@ use Rattle.octets.proofs.Lists.{every-next, every-end}
 use Rattle.octets.proofs.zero_from.Statement.{statement}
 use Rattle.octets.proofs.zero_from.Tie as tie
 
+-- an octet that is 0
 abbrev zero : ℕ → Bool
 zero b = eqb b 0
 

@@ -3,16 +3,16 @@ use Prim.Native.Nat.{ℕ, _≤_, _<_, _+_, _-_, _*_}
 use mathlib.Core.Bool.{false}
 use mathlib.Core.Path.{_≡_, refl}
 use native.Mathlib.Omega.{arith}
-use Rattle.series.specs.Series.{someBelow, inBlock}
+use Rattle.series.specs.Series.{someBelow}
 use Rattle.series.proofs.SomeBelow.{someBelow-more}
-use Rattle.series.proofs.Blocks.{inBlock-over, not-last, first-tells}
+use Rattle.series.proofs.Blocks.{blockHolds, inBlock-over, not-last, first-tells}
 use borrow.Author.Needs.{needs}
 use Rattle.series.proofs.in_blocks.Statement.{statement}
 use Rattle.series.proofs.in_blocks.Tie as tie
 
 abbrev Inv-loop : tie.InvT-loop
 Inv-loop base spacing rate length slot start₀ start =
-    (start ≤ 8589934590) × (j : ℕ) × (start ≡ base + j * spacing) × (j < rate) × (someBelow j (λ i. inBlock (base + i * spacing) length slot) ≡ false)
+    (start ≤ 8589934590) × (j : ℕ) × (start ≡ base + j * spacing) × (j < rate) × (someBelow j (blockHolds base spacing length slot) ≡ false)
 
 abbrev μ-loop : tie.MeasureT-loop
 μ-loop base spacing rate length slot start₀ start = slot + 1 - start
@@ -43,7 +43,7 @@ loop-again c =
     let e : h .loop .start ≡ a .base + j * a .spacing = h .loop .inv .2 in
     let n = not-last (a .base) (a .spacing) (a .length) (a .slot) (a .rate) j (omega arith) (omega arith) in
     let over = inBlock-over (a .base + j * a .spacing) (a .length) (a .slot) (omega arith) in
-    (omega arith, j + 1, omega arith, n .0, someBelow-more j (λ i. inBlock (a .base + i * a .spacing) (a .length) (a .slot)) (h .loop .inv .4) over)
+    (omega arith, j + 1, omega arith, n .0, someBelow-more j (blockHolds (a .base) (a .spacing) (a .length) (a .slot)) (h .loop .inv .4) over)
 
 returns : tie.Need-returns Inv-loop μ-loop
 returns c =

@@ -1,12 +1,12 @@
 -- `series::reserves` meets its contract: no superframe before the one that is tried holds the slot, and none from one on that starts past it. Assumes nothing.
 use Prim.Native.Nat.{ℕ, _≤_, _+_, _-_, _*_, _/_}
 use native.Mathlib.Nat.{mul-le-mul-right}
-use mathlib.Core.Bool.{Bool, true, false}
+use mathlib.Core.Bool.{Bool, false}
 use mathlib.Core.Path.{_≡_, refl, sym, _∙_}
 use native.Mathlib.Omega.{arith}
-use Rattle.series.specs.Series.{someBelow, inBlock, reserves}
+use Rattle.series.specs.Series.{someBelow, reserves}
 use Rattle.series.proofs.SomeBelow.{someBelow-at, someBelow-more, someBelow-rest}
-use Rattle.series.proofs.Blocks.{none-ahead}
+use Rattle.series.proofs.Blocks.{superframeHolds, none-ahead}
 use borrow.Author.Needs.{needs}
 use Rattle.series.proofs.reserves.Statement.{statement}
 use Rattle.series.proofs.reserves.Tie as tie
@@ -15,10 +15,22 @@ abbrev Inv-loop : tie.InvT-loop
 Inv-loop m1 slot m s rate superframes length spacing base₀ k₀ base k =
     (base ≡ base₀ + k * m1)
     × (k ≤ superframes)
-    × (someBelow k (λ i. someBelow rate (λ j. inBlock (base₀ + i * m1 + j * (m1 / rate)) length slot)) ≡ false)
+    × (someBelow k (superframeHolds base₀ m1 rate length slot) ≡ false)
 
 abbrev μ-loop : tie.MeasureT-loop
 μ-loop m1 slot m s rate superframes length spacing base₀ k₀ base k = superframes - k
+
+-- superframe k of the record holds the slot
+abbrev holds : tie.At-loop Inv-loop μ-loop → ℕ → Bool
+holds h =
+    let a = h .before .before .before .before .before .before .args in
+    superframeHolds (a .r .first) (a .m1) (a .r .rate) (a .r .length) (a .slot)
+
+-- `in_superframe` answers it
+answered : (c : tie.After-in-superframe Inv-loop μ-loop) → c .in-superframe .result ≡ holds (c .before .before .before) (c .before .before .before .loop .k)
+answered c =
+    let h = c .before .before .before in
+    simp (← h .loop .inv .0, ← h .before .before .quotient .ensures .0) (c .in-superframe .ensures)
 
 cast-rate : tie.Need-cast-rate Inv-loop μ-loop
 cast-rate c = search needs
@@ -44,8 +56,7 @@ unfolding reserves
 returns c =
     let h = c .before .before in
     let a = h .before .before .before .before .before .before .args in
-    let p : ℕ → Bool = λ i. someBelow (a .r .rate) (λ j. inBlock (a .r .first + i * a .m1 + j * (a .m1 / a .r .rate)) (a .r .length) (a .slot)) in
-    sym (someBelow-rest (a .r .superframes) p (h .loop .k) (omega arith) (h .loop .inv .2) (λ i l _.
+    sym (someBelow-rest (a .r .superframes) (holds h) (h .loop .k) (omega arith) (h .loop .inv .2) (λ i l _.
     let m : h .loop .k * a .m1 ≤ i * a .m1 = mul-le-mul-right (a .m1) l in
     none-ahead (a .r .first + i * a .m1) (a .m1 / a .r .rate) (a .r .length) (a .slot) (a .r .rate) (omega arith)))
 
@@ -57,9 +68,7 @@ unfolding reserves
 returns-2 c =
     let h = c .before .before .before .before in
     let a = h .before .before .before .before .before .before .args in
-    let p : ℕ → Bool = λ i. someBelow (a .r .rate) (λ j. inBlock (a .r .first + i * a .m1 + j * (a .m1 / a .r .rate)) (a .r .length) (a .slot)) in
-    let e : p (h .loop .k) ≡ true = simp (← h .loop .inv .0, ← h .before .before .quotient .ensures .0) (sym (c .before .in-superframe .ensures) ∙ c .if2 .taken) in
-    sym (someBelow-at (a .r .superframes) p (h .loop .k) (omega arith) e)
+    sym (someBelow-at (a .r .superframes) (holds h) (h .loop .k) (omega arith) (sym (answered (c .before)) ∙ c .if2 .taken))
 
 add-base : tie.Need-add-base Inv-loop μ-loop
 add-base c = search needs
@@ -73,10 +82,7 @@ loop-less c = search needs
 loop-again : tie.Need-loop-again Inv-loop μ-loop
 loop-again c =
     let h = c .before .before .before .before in
-    let a = h .before .before .before .before .before .before .args in
-    let p : ℕ → Bool = λ i. someBelow (a .r .rate) (λ j. inBlock (a .r .first + i * a .m1 + j * (a .m1 / a .r .rate)) (a .r .length) (a .slot)) in
-    let e : p (h .loop .k) ≡ false = simp (← h .loop .inv .0, ← h .before .before .quotient .ensures .0) (sym (c .before .in-superframe .ensures) ∙ c .if2 .left) in
-    (omega arith, omega arith, someBelow-more (h .loop .k) p (h .loop .inv .2) e)
+    (omega arith, omega arith, someBelow-more (h .loop .k) (holds h) (h .loop .inv .2) (sym (answered (c .before)) ∙ c .if2 .left))
 
 returns-3 : tie.Need-returns-3 Inv-loop μ-loop
 unfolding reserves

@@ -16,10 +16,10 @@ use Rattle.sound.proofs.all_good.Statement.{statement}
 use Rattle.sound.proofs.all_good.Tie as tie
 
 abbrev Inv-loop : tie.InvT-loop
-Inv-loop memory n m1 t reciprocals held i₀ i = every (good m1 t) (take n (view memory)) ≡ every (good m1 t) (toCome i held memory)
+Inv-loop memory n m1 time reciprocals held i₀ i = every (good m1 time) (take n (view memory)) ≡ every (good m1 time) (toCome i held memory)
 
 abbrev μ-loop : tie.MeasureT-loop
-μ-loop memory n m1 t reciprocals held i₀ i = held - i
+μ-loop memory n m1 time reciprocals held i₀ i = held - i
 
 held-count-requires : tie.Need-held-count-requires Inv-loop μ-loop
 held-count-requires c κs = search needs

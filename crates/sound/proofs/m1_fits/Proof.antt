@@ -7,6 +7,7 @@ use Rattle.codec.specs.Parameters.{fits, parameterTests}
 use Rattle.sound.proofs.m1_fits.Statement.{statement}
 use Rattle.sound.proofs.m1_fits.Tie as tie
 
+-- a figure fits where 10 is not given
 accepted : (b : Bool) → eqb (cond (not b) 10 0) 0 ≡ b
 accepted true = refl
 accepted false = refl

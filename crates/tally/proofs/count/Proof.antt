@@ -1,6 +1,4 @@
--- `tally::count` meets its contract: a walk of its MIR, by hand. The borrow is opened, the record is copied out and passed to `counted`, the record that `counted` returned is stored, and the borrow is closed at it.
--- All that the proof knows of `counted` is that it meets its contract.
--- Assumes nothing.
+-- `tally::count` meets its contract: a walk of its MIR, by hand, that knows of `counted` no more than its contract. The borrow is opened, the tally is copied out and passed to `counted`, what that returns is stored, and the borrow is closed at it. Assumes nothing.
 use mathlib.Core.Path.{_≡_, refl}
 use Prim.Native.Nat.{ℕ, _<_, _^_}
 use mathlib.Core.List.{[], _∷_, List}
