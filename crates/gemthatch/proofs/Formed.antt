@@ -1,12 +1,12 @@
 -- The state that a host forms from an answer over C, and how it tells a refusal. Assumes nothing.
-use Prim.Native.Nat.{ℕ, _+_, _-_, _≤_, zero-le}
+use Prim.Native.Nat.{ℕ, zero, suc, _+_, _-_, _≤_, zero-le}
 use native.Mathlib.Omega.{arith}
 use mathlib.Core.Path.{_≡_, refl, sym, ap, _∙_}
 use mathlib.Core.Bool.{Bool, true, false, cond, not, true≢false}
 use mathlib.Core.List.{List, [], _∷_, _++_, map}
-use lib.Dec.{leb, eqb}
+use lib.Dec.{leb}
 use lib.ListN.{length as len, length-append, length-map}
-use borrow.Author.Tests.{eqb-true, eqb-false, le-leb, lt-leb}
+use borrow.Author.Tests.{le-leb, lt-leb}
 use Rattle.octets.specs.Lists.{keep}
 use Rattle.octets.specs.Refusals.{answer}
 use Rattle.octets.proofs.Lists.{length-keep-not}
@@ -17,36 +17,37 @@ use Rattle.sound.specs.Sound.{Channel, records, lasts, sound}
 use Rattle.sound.proofs.Sound.{Held, held}
 use Rattle.table.specs.declared.State.{State}
 use Rattle.table.specs.Table.{Call, clock, reserve, distance, wipe, look, isLook, asked, bit, of, setFar, changed, reported}
-use Rattle.table.specs.Memory.{channel, stateOf, read, write, refusal, leaves, says, returned, openRefusal, opened, openLeaves, openReturned}
+use Rattle.table.specs.Memory.{channel, stateOf, read, write, refusal, leaves, says, returned, openRefusal, openLeaves, openReturned}
 use Rattle.table.proofs.Calls.{refusal-unsound, refused-gives, accepted-gives}
 use Rattle.table.proofs.Memory.{length-kept}
 use Rattle.search.specs.Search.{searched}
 use Rattle.search.proofs.Answers.{found-fits}
 use Rattle.gemthatch.specs.OverC.{overC, called}
-use Rattle.gemthatch.specs.Claims.{moved, formed, formedByOpen, refusalIn, StateFormed, StateOpened, RefusalTold, ReportedSmall, FoundSmall}
+use Rattle.gemthatch.specs.Claims.{moved, formed, StateFormed, StateOpened, RefusalTold, ReportedSmall, FoundSmall}
 use Rattle.gemthatch.proofs.Most.{returned-called}
 
 -- ---- overC
 
--- an accepted number stands below 2,000,000,000, a refusal above
+-- both ways to go on from a refusal
+by-refusal : {X : Type 0} (n : ℕ) → (n ≡ 0 → X) → ((n ≡ 0 → ⊥) → X) → X
+by-refusal zero f g = f refl
+by-refusal (suc n) f g = g (omega arith)
+
+-- an accepted number stands as it is
 overC-accepted : (number : ℕ) → overC 0 number ≡ number
 unfolding overC answer
 overC-accepted number = refl
 
+-- a refusal from 2,000,000,000 on
 overC-refused : (refusal number : ℕ) → (refusal ≡ 0 → ⊥) → overC refusal number ≡ 2_000_000_000 + refusal
 unfolding overC
 overC-refused refusal number h = sym (answer-refused number (λ n. 2_000_000_000 + n) {n = refusal} refl h)
 
 pub refusal-told : RefusalTold
-refusal-told refusal number h = by-test (eqb refusal 0) accepted refused
-  where
-    accepted : eqb refusal 0 ≡ true → refusalIn (overC refusal number) ≡ refusal
-    accepted z =
-        let e = eqb-true refusal 0 z in
-        rw (e, overC-accepted number, lt-leb 2_000_000_000 number h)
-
-    refused : eqb refusal 0 ≡ false → refusalIn (overC refusal number) ≡ refusal
-    refused z = rw (overC-refused refusal number (eqb-false refusal 0 z), le-leb 2_000_000_000 (2_000_000_000 + refusal) (omega arith)) (omega arith)
+refusal-told refusal number h =
+    by-refusal refusal
+    (λ z. rw (z, overC-accepted number, lt-leb 2_000_000_000 number h))
+    (λ z. rw (overC-refused refusal number z, le-leb 2_000_000_000 (2_000_000_000 + refusal) (omega arith)) (omega arith))
 
 -- ---- numbers are small
 
@@ -57,6 +58,7 @@ accepted-held m c z =
     (λ h. held m h)
     (λ h. let e : 11 ≡ 0 = refusal-unsound m c h ∙ z in absurd (omega arith))
 
+-- and so reports no more than its records
 reported-most : (m : Channel) (c : Call) → isLook c ≡ false → Held m → reported (read m) c ≤ 2048
 unfolding read
 reported-most m (clock slot) h k = omega (arith, length-kept m k (λ r. not (lasts (m .m1) slot r)), k .room, k .capacity-most)
@@ -76,6 +78,7 @@ found-small m q places = found-fits m q places .1
 -- ---- the state formed
 
 module _ (s : State) (b : List ℕ) where
+  -- the table that the call is made on
   abbrev given : Channel
   given = channel s b
 
@@ -103,22 +106,21 @@ module _ (s : State) (b : List ℕ) where
       ap (then (s .now)) e
   moved-written (look f) h k = absurd (true≢false h)
 
+  -- by a call's one number, accepted or refused
   formed-made : (c : Call) → isLook c ≡ false → formed s c (called given c) ≡ returned given c .state
-  formed-made c h = by-test (eqb (refusal given c) 0) accepted refused
+  formed-made c h = by-refusal (refusal given c) accepted refused
     where
-      accepted : eqb (refusal given c) 0 ≡ true → formed s c (called given c) ≡ returned given c .state
-      accepted t =
-          let z = eqb-true (refusal given c) 0 t in
+      accepted : refusal given c ≡ 0 → formed s c (called given c) ≡ returned given c .state
+      accepted z =
           let k = accepted-held given c z in
           let x = reported (read given) c in
           let g = accepted-gives given c (sym z) h .0 in
           let e : called given c ≡ x = sym (returned-called _ given c g) ∙ overC-accepted x in
           rw (e, lt-leb 2_000_000_000 x (omega (arith, reported-most given c h k)), ← g) (moved-written c h k)
 
-      refused : eqb (refusal given c) 0 ≡ false → formed s c (called given c) ≡ returned given c .state
-      refused t =
+      refused : (refusal given c ≡ 0 → ⊥) → formed s c (called given c) ≡ returned given c .state
+      refused z =
           let r = refusal given c in
-          let z = eqb-false r 0 t in
           let g = refused-gives given c r refl z .0 in
           let e : called given c ≡ 2_000_000_000 + r = sym (returned-called _ given c g) ∙ overC-refused r 0 z in
           rw (e, le-leb 2_000_000_000 (2_000_000_000 + r) (omega arith), ← g)
@@ -135,22 +137,11 @@ state-formed s b (look f) = go (leb 2_000_000_000 (called (channel s b) (look f)
     go true = refl
     go false = refl
 
--- what a refused opening leaves
-abbrev shut : List ℕ → Channel
-shut b = record { m1 = 0; now = 0; count = 0; memory = b }
-
 pub state-opened : StateOpened
 unfolding openReturned openLeaves
-state-opened m1 b = by-test (eqb (openRefusal m1 b) 0) accepted refused
-  where
-    accepted : eqb (openRefusal m1 b) 0 ≡ true → formedByOpen m1 (overC (openRefusal m1 b) 0) ≡ stateOf (openLeaves m1 b)
-    accepted t =
-        let z = eqb-true (openRefusal m1 b) 0 t in
-        let e = answer-accepted (opened m1 b) (λ _. shut b) {m = 0} refl in
-        rw (z, overC-accepted 0) (ap stateOf e)
-
-    refused : eqb (openRefusal m1 b) 0 ≡ false → formedByOpen m1 (overC (openRefusal m1 b) 0) ≡ stateOf (openLeaves m1 b)
-    refused t =
-        let z = eqb-false (openRefusal m1 b) 0 t in
-        let e = answer-refused (opened m1 b) (λ _. shut b) {n = openRefusal m1 b} refl z in
-        rw (overC-refused (openRefusal m1 b) 0 z, le-leb 2_000_000_000 (2_000_000_000 + openRefusal m1 b) (omega arith)) (ap stateOf e)
+state-opened m1 b =
+    by-refusal (openRefusal m1 b)
+    (λ z. rw (z, overC-accepted 0) (ap stateOf (answer-accepted _ _ {m = 0} refl)))
+    (λ z.
+    rw (overC-refused (openRefusal m1 b) 0 z, le-leb 2_000_000_000 (2_000_000_000 + openRefusal m1 b) (omega arith))
+    (ap stateOf (answer-refused _ _ {n = openRefusal m1 b} refl z)))

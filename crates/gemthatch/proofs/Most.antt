@@ -27,7 +27,8 @@ use Rattle.gemthatch.specs.OverC.{overC, called}
 
 -- ---- the table
 
-pub says-most : (m : Channel) (c : Call) → isLook c ≡ false → says m c .refusal ≤ 22
+-- the tests of each call have numbers up to 22
+says-most : (m : Channel) (c : Call) → isLook c ≡ false → says m c .refusal ≤ 22
 unfolding says refusal
 says-most m (clock slot) h = firstOf-most 22 ((11, not (sound m)) ∷ tests (read m) (clock slot)) refl
 says-most m (reserve q) h = firstOf-most 22 ((11, not (sound m)) ∷ tests (read m) (reserve q)) refl
@@ -35,12 +36,13 @@ says-most m (distance s d limit) h = firstOf-most 22 ((11, not (sound m)) ∷ te
 says-most m (wipe s) h = firstOf-most 22 ((11, not (sound m)) ∷ tests (read m) (wipe s)) refl
 says-most m (look f) h = absurd (true≢false h)
 
--- what a method returned
+-- what a method returned for a call
 module _ (a : Answer) (m : Channel) (c : Call) (e : a ≡ returned m c) where
   pub returned-most : isLook c ≡ false → a .refusal ≤ 22
   unfolding returned
   returned-most h = rw e (says-most m c h)
 
+  -- as one number
   pub returned-called : overC (a .refusal) (a .number) ≡ called m c
   unfolding returned called
   returned-called = ap (λ (x : Answer). overC (x .refusal) (x .number)) e
@@ -51,7 +53,7 @@ open-most m1 b = firstOf-most 22 ((10, not (Parameters.fits 1 m1)) ∷ (1, not (
 
 -- ---- slots
 
--- a slot's state by the records is none of a refusal
+-- a slot's state by the records is no refusal
 state-accepted : (hs : List Rec) → said (stateBy hs) .refusal ≡ 0
 unfolding stateBy
 state-accepted [] = refl

@@ -27,7 +27,8 @@ module _ (m : Channel) (q : Query) (places others : ℕ) (h : 16 ≤ places) (k 
           let w = outside-false 1 16 (q .wanted) e in
           rw (le-ltb places (q .wanted) (omega arith), le-ltb others (q .wanted) (omega arith))
 
-  pub refusal-alike : refusal m q places ≡ refusal m q others
+  -- so the refusal is the same, and with it all that a search gives
+  refusal-alike : refusal m q places ≡ refusal m q others
   unfolding refusal
   refusal-alike = rw (short-alike _)
 

@@ -13,27 +13,29 @@ use Rattle.gemthatch.specs.OverC.{inOctets}
 
 -- ---- inOctets
 
-pub length-inOctets : (ns : List ℕ) → length (inOctets ns) ≡ length ns * 4
+-- four octets to each
+length-inOctets : (ns : List ℕ) → length (inOctets ns) ≡ length ns * 4
 length-inOctets [] = refl
 length-inOctets (n ∷ ns) = rw (length-append, length-inOctets ns, length-little 4 n) (omega arith)
 
-pub inOctets-append : (ns : List ℕ) (n : ℕ) → inOctets (ns ++ (n ∷ [])) ≡ inOctets ns ++ little 4 n
+-- one number behind the others
+inOctets-append : (ns : List ℕ) (n : ℕ) → inOctets (ns ++ (n ∷ [])) ≡ inOctets ns ++ little 4 n
 inOctets-append [] n = append-nil (little 4 n)
 inOctets-append (m ∷ ns) n = rw (inOctets-append ns n, append-assoc)
 
--- one number more
+-- the next number of a list
 pub inOctets-next : (i : ℕ) (ns : List ℕ) → i < length ns → inOctets (take (i + 1) ns) ≡ inOctets (take i ns) ++ little 4 (getD ns i 0)
 inOctets-next i ns h = rw (add-one, take-suc ns i 0 h) (inOctets-append (take i ns) (getD ns i 0))
 
--- ---- a list that holds the octets of the first i numbers
+-- ---- a wiped list, filled
 
+-- that holds the octets of the first i numbers has them at its front
 pub held-front : (places i : ℕ) (ns list : List ℕ) → i ≤ length ns → list ≡ holdsOnly places (inOctets (take i ns)) → take (i * 4) list ≡ inOctets (take i ns)
 held-front places i ns list h e =
     let k : length (inOctets (take i ns)) ≡ i * 4 = rw (length-inOctets, length-take-le i ns h) in
     rw e (take-at (inOctets (take i ns)) (replicate (places - length (inOctets (take i ns))) 0) (i * 4) k)
 
--- ---- four octets behind those that a list holds
-
+-- four octets behind those that it holds
 pub put-four : (places at : ℕ) (xs : List ℕ) (a b c d : ℕ) → at ≡ length xs → at + 4 ≤ places
     → set (set (set (set (holdsOnly places xs) at a) (at + 1) b) (at + 2) c) (at + 3) d ≡ holdsOnly places (xs ++ (a ∷ b ∷ c ∷ d ∷ []))
 put-four places at xs a b c d e h =

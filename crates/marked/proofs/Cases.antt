@@ -1,22 +1,20 @@
 -- The marked cases: over octets those of record T are what they are over records, and all of them by computing. Assumes nothing.
 use Prim.Native.Nat.{ℕ}
 use mathlib.Core.Path.{_≡_, refl, sym, ap, _∙_}
-use mathlib.Core.List.{List, [], map}
+use mathlib.Core.List.{[], map}
 use lib.Ieee.{ofInt, neg, add, mul, le}
-use lib.ListN.{replicate}
 use Rattle.octets.specs.Refusals.{firstOf, answer}
-use Rattle.codec.specs.Parameters as Parameters
 use Rattle.codec.specs.NineOctets.{fieldTests, readTests}
 use Rattle.distance.specs.declared.Distance.{Distance}
 use Rattle.record.specs.Record.{size, capacity}
 use Rattle.series.specs.Series.{someBelow, inBlock, reserves, lastSlot}
 use Rattle.sound.specs.Sound.{records, lasts}
 use Rattle.table.specs.Table.{Table, clock}
-use Rattle.table.specs.Memory.{write, leaves, openRefusal}
-use Rattle.table.specs.Slots.{stateBy, slotState, slotAnswer}
+use Rattle.table.specs.Memory.{write, leaves}
+use Rattle.table.specs.Slots.{stateBy, slotState, slotAnswer, slotOn}
 use Rattle.trace.proofs.Kept.{after, run, Sound, sound-run}
-use Rattle.trace.proofs.Written.{records-write, leaves-records, empty, sound-empty, opened-runs}
-use Rattle.trace.proofs.Looks.{slotOn, slot-write}
+use Rattle.trace.proofs.Written.{records-write, leaves-records, empty, sound-empty, opened-runs, lent, lent-accepted}
+use Rattle.trace.proofs.Looks.{slot-write}
 use Rattle.search.specs.declared.Query.{Query}
 use Rattle.search.specs.Search.{level0, level1, qualifying, listed, statesOf, tests, refusal, found}
 use Rattle.marked.specs.Marked.{callsT, tableT, Marked}
@@ -24,23 +22,17 @@ use Rattle.marked.proofs.Searches.{refusal-write, found-write}
 
 -- ---- T's table over records
 
--- twelve octets, room for one record
-abbrev lent : List ℕ
-lent = replicate 12 0
-
-accepted : openRefusal 4500 lent ≡ 0
-unfolding openRefusal Parameters.fits capacity size
-accepted = refl
-
 module _ (d : Distance) where
+  -- the table that holds T
   abbrev held : Table
   held = run (empty 4500 lent) (callsT d)
 
   sound-held : Sound held
-  sound-held = sound-run (empty 4500 lent) (callsT d) (sound-empty 4500 lent accepted)
+  sound-held = sound-run (empty 4500 lent) (callsT d) (sound-empty 4500 lent lent-accepted)
 
+  -- the octets are its
   written : tableT d ≡ write held
-  written = opened-runs 4500 lent accepted (callsT d)
+  written = opened-runs 4500 lent lent-accepted (callsT d)
 
   -- ---- what is asked of it
 

@@ -12,6 +12,7 @@ use Rattle.search.specs.Search.{found, searched, listAfter}
 use Rattle.io.specs.Counts.{Counts}
 use Rattle.sound.specs.Sound.{Channel}
 
+-- a list of so many places, with n numbers in the answer
 pub counts-only : (places n : ℕ) (answer out : List ℕ) → n ≡ length answer → out ≡ holdsOnly places answer → Counts n out
 counts-only places n answer out e f = rw (f, e) (rw length-append (omega arith), rw take-append-seam)
 

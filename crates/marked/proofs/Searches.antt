@@ -11,10 +11,12 @@ use Rattle.search.specs.declared.Query.{Query}
 use Rattle.search.specs.Search.{listed, statesOf, tests, refusal, found}
 
 module _ (t : Table) (k : Sound t) (q : Query) (places : ℕ) where
+  -- its refusal
   pub refusal-write : refusal (write t) q places ≡ firstOf (tests t q places)
   unfolding refusal
   refusal-write = rw (sound-write t k, read-write t k)
 
+  -- and what it finds
   pub found-write : found (write t) q places ≡ answer (firstOf (tests t q places)) (listed (statesOf t) q) (λ _. [])
   unfolding found
   found-write = rw (refusal-write, read-write t k)

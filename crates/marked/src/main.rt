@@ -167,16 +167,16 @@ fn put_search(name: &[u8], s: State, memory: &[u8], lo: u32, hi: u32) {
 }
 
 fn put_t() {
-    let mut near_mem = [0u8; 12];
-    let mut far_mem = [0u8; 12];
-    let near = reserve_t(&mut near_mem, Distance::Unknown);
-    let far = reserve_t(&mut far_mem, Distance::Range(LIMIT));
-    put_last_slot(near, &near_mem);
-    put_slots(near, &near_mem);
-    put_clocks(near, near_mem);
-    put_search(b"P8", near, &near_mem, 105, 111);
-    put_search(b"P9", far, &far_mem, 105, 111);
-    put_search(b"P10", near, &near_mem, 105, 105);
+    let mut near_memory = [0u8; 12];
+    let mut far_memory = [0u8; 12];
+    let near = reserve_t(&mut near_memory, Distance::Unknown);
+    let far = reserve_t(&mut far_memory, Distance::Range(LIMIT));
+    put_last_slot(near, &near_memory);
+    put_slots(near, &near_memory);
+    put_clocks(near, near_memory);
+    put_search(b"P8", near, &near_memory, 105, 111);
+    put_search(b"P9", far, &far_memory, 105, 111);
+    put_search(b"P10", near, &near_memory, 105, 105);
 }
 
 // ---- P11

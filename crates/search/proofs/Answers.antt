@@ -17,8 +17,11 @@ use Rattle.table.proofs.Looks.{says-look, says-look-unsound}
 use Rattle.search.specs.declared.Query.{Query}
 use Rattle.search.specs.declared.Picked.{Picked}
 use Rattle.search.specs.Search.{statesOf, tests, listed, refusal, found, searched, listAfter, picked, asks}
-use Rattle.search.proofs.Listed.{length-listed, listed-none}
 use Rattle.search.specs.Claims.{NoMore, RestIsZero, SomeFound, SearchLooks, PickedBelow, FoundIsPicked}
+use Rattle.search.proofs.Listed.{length-listed, listed-none}
+use Rattle.search.proofs.Asked.{answered}
+
+-- ---- the number found
 
 -- a refused search has found none
 none-refused : (n : ℕ) (xs : List ℕ) → (n ≡ 0 → ⊥) → len (answer n xs (λ _. [])) ≡ 0
@@ -30,7 +33,7 @@ pub found-fits : (m : Channel) (q : Query) (places : ℕ) → (len (found m q pl
 unfolding found refusal
 found-fits m q places =
     let ts : List (ℕ × Bool) = (11, not (sound m)) ∷ tests (read m) q places in
-    answer-elim (listed (statesOf (read m)) q) (λ _. []) (λ l. (len l ≤ places) × (len l ≤ 16)) (firstOf ts)
+    answer-elim (answered m q) (λ _. []) (λ l. (len l ≤ places) × (len l ≤ 16)) (firstOf ts)
     (λ z.
     let t = firstOf-zero ts refl z in
     let few = outside-false 1 16 (q .wanted) (t .1 .1 .1 .0) .1 in
@@ -40,13 +43,10 @@ found-fits m q places =
     (λ _. (zero-le, zero-le))
 
 module _ (m : Channel) (q : Query) (places : ℕ) (z : refusal m q places ≡ 0) where
-  abbrev answered : List ℕ
-  answered = listed (statesOf (read m)) q
-
   -- an accepted search has found what is listed
-  found-listed : found m q places ≡ answered
+  found-listed : found m q places ≡ answered m q
   unfolding found
-  found-listed = sym (answer-accepted answered (λ _. []) (sym z))
+  found-listed = sym (answer-accepted (answered m q) (λ _. []) (sym z))
 
   -- it asked for 1 to 16, and so has found 1 to 16
   found-in-range : (1 ≤ len (found m q places)) × (len (found m q places) ≤ 16)
@@ -54,7 +54,7 @@ module _ (m : Channel) (q : Query) (places : ℕ) (z : refusal m q places ≡ 0)
   found-in-range =
       let t = firstOf-zero ((11, not (sound m)) ∷ tests (read m) q places) refl z in
       let wanted = outside-false 1 16 (q .wanted) (t .1 .1 .1 .0) in
-      let some = eqb-false (len answered) 0 (sym (listed-none (statesOf (read m)) q (wanted .0)) ∙ t .1 .1 .1 .1 .1 .0) in
+      let some = eqb-false (len (answered m q)) 0 (sym (listed-none (statesOf (read m)) q (wanted .0)) ∙ t .1 .1 .1 .1 .1 .0) in
       (rw found-listed (omega arith), found-fits m q places .1)
 
 pub some-found : SomeFound
@@ -74,7 +74,7 @@ pub search-looks : SearchLooks
 unfolding searched found refusal answer
 search-looks m q places =
     by-test (sound m)
-    (λ h. rw h (sym (says-look m (asks q places) h (none-refused (firstOf (tests (read m) q places)) (listed (statesOf (read m)) q)))))
+    (λ h. rw h (sym (says-look m (asks q places) h (none-refused (firstOf (tests (read m) q places)) (answered m q)))))
     (λ h. rw (h, says-look-unsound m (asks q places) h))
 
 -- ---- pick

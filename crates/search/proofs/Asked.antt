@@ -18,8 +18,7 @@ use Rattle.search.specs.Search.{statesOf, listed, queryTests, slotTests,
 use Rattle.search.specs.Steps.{WellAsked}
 use Rattle.search.proofs.Listed.{listed-none}
 
--- ---- what passed tests tell
-
+-- a query that no test before 21 refuses has its numbers in range
 pub well-asked : (m1 now : ℕ) (q : Query) (places : ℕ) → firstOf (queryTests m1 now q places) ≡ 0 → WellAsked q places
 well-asked m1 now q places z =
     let t = firstOf-zero (queryTests m1 now q places) refl z in
@@ -38,26 +37,31 @@ well-asked m1 now q places z =
       has-room = ltb-false places (q .wanted) (t .1 .1 .1 .0);
     }
 
+-- ---- a search of a table
+
+-- what it lists, where it is not refused
+abbrev pub answered : Channel → Query → List ℕ
+answered m q = listed (statesOf (read m)) q
+
 module _ (m : Channel) (q : Query) (places : ℕ) where
   -- the refusals for which no slot is looked at
   abbrev pub asked : ℕ
   asked = firstOf (queryTests (m .m1) (m .now) q places)
 
-  abbrev answered : List ℕ
-  answered = listed (statesOf (read m)) q
-
   -- ---- which refusal
 
+  -- 11 where the table isn't sound
   pub refusal-unsound : sound m ≡ false → 11 ≡ refusal m q places
   unfolding refusal
   refusal-unsound h = rw h
 
+  -- else the one for which no slot is looked at
   pub refusal-asked : sound m ≡ true → (asked ≡ 0 → ⊥) → asked ≡ refusal m q places
   unfolding refusal read
   refusal-asked h z = rw h (sym (firstOf-stop (queryTests (m .m1) (m .now) q places) (slotTests (statesOf (read m)) q) z))
 
-  -- with the slots looked at, by the number found
-  refusal-looked : sound m ≡ true → asked ≡ 0 → refusal m q places ≡ cond (eqb (len answered) 0) 21 0
+  -- else by the number found
+  refusal-looked : sound m ≡ true → asked ≡ 0 → refusal m q places ≡ cond (eqb (len (answered m q)) 0) 21 0
   unfolding refusal read
   refusal-looked h z =
       rw (
@@ -68,26 +72,27 @@ module _ (m : Channel) (q : Query) (places : ℕ) where
 
   -- ---- what is given
 
+  -- a refused search: its number, and a wiped list
   pub refused-gives : (n : ℕ) → n ≡ refusal m q places → (n ≡ 0 → ⊥)
       → (record { refusal = n; number = 0 } ≡ searched m q places) × (holdsOnly places [] ≡ listAfter m q places)
   unfolding searched listAfter found
   refused-gives n e h =
-      let none : [] ≡ found m q places = answer-refused answered (λ _. []) e h in
+      let none : [] ≡ found m q places = answer-refused (answered m q) (λ _. []) e h in
       (rw (← none, ← e), rw (← none))
 
   module _ (h : sound m ≡ true) (z : asked ≡ 0) where
     -- none found
-    pub none-gives : len answered ≡ 0 → (record { refusal = 21; number = 0 } ≡ searched m q places) × (holdsOnly places answered ≡ listAfter m q places)
+    pub none-gives : len (answered m q) ≡ 0 → (record { refusal = 21; number = 0 } ≡ searched m q places) × (holdsOnly places (answered m q) ≡ listAfter m q places)
     none-gives e =
-        let g = refused-gives 21 (sym (refusal-looked h z ∙ rw (eq-eqb (len answered) 0 e))) (omega arith) in
-        let none : [] ≡ answered = take-all 0 answered (omega arith) in
+        let g = refused-gives 21 (sym (refusal-looked h z ∙ rw (eq-eqb (len (answered m q)) 0 e))) (omega arith) in
+        let none : [] ≡ answered m q = take-all 0 (answered m q) (omega arith) in
         (g .0, rw (← none) (g .1))
 
     -- some found
-    pub some-gives : (len answered ≡ 0 → ⊥)
-        → (record { refusal = 0; number = len answered } ≡ searched m q places) × (holdsOnly places answered ≡ listAfter m q places)
+    pub some-gives : (len (answered m q) ≡ 0 → ⊥)
+        → (record { refusal = 0; number = len (answered m q) } ≡ searched m q places) × (holdsOnly places (answered m q) ≡ listAfter m q places)
     unfolding searched listAfter found
     some-gives e =
-        let r : 0 ≡ refusal m q places = sym (refusal-looked h z ∙ rw (ne-eqb (len answered) 0 e)) in
-        let some : answered ≡ found m q places = answer-accepted answered (λ _. []) r in
+        let r : 0 ≡ refusal m q places = sym (refusal-looked h z ∙ rw (ne-eqb (len (answered m q)) 0 e)) in
+        let some : answered m q ≡ found m q places = answer-accepted (answered m q) (λ _. []) r in
         (rw (← some, ← r), rw (← some))

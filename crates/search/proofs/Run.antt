@@ -16,7 +16,7 @@ use Rattle.search.specs.Steps.{run, runs, further}
 -- ---- run
 
 -- the run is at least n long exactly where the last n of the m + n numbers pass
-pub run-every : (p : ℕ → Bool) (lo m n : ℕ) → leb n (run p lo (m + n)) ≡ every p (from (lo + m) n)
+run-every : (p : ℕ → Bool) (lo m n : ℕ) → leb n (run p lo (m + n)) ≡ every p (from (lo + m) n)
 unfolding run
 run-every p lo m zero = leb·zero (run p lo (m + 0))
 run-every p lo m (suc n) =
@@ -28,7 +28,8 @@ run-every p lo m (suc n) =
     go true = rw (add-one, leb·suc-suc, and-true)
     go false = rw (leb·suc-zero, and-false)
 
-pub run-≤ : (p : ℕ → Bool) (lo n : ℕ) → run p lo n ≤ n
+-- no run is longer than the numbers passed
+run-≤ : (p : ℕ → Bool) (lo n : ℕ) → run p lo n ≤ n
 unfolding run
 run-≤ p lo zero = zero-le
 run-≤ p lo (suc n) = go (p (lo + n)) (run-≤ p lo n)
@@ -40,7 +41,7 @@ run-≤ p lo (suc n) = go (p (lo + n)) (run-≤ p lo n)
 -- ---- runs
 
 module _ (states : ℕ → Slot) (lo n : ℕ) where
-  -- no run is longer than the slots passed
+  -- so is neither run of slots
   pub runs-≤ : (r : Runs) → r ≡ runs states lo n → (r .free ≤ n) × (r .untaken ≤ n)
   unfolding runs
   runs-≤ r e = rw e (run-≤ (λ slot. isFree (states slot)) lo n, run-≤ (λ slot. not (isTaken (states slot))) lo n)

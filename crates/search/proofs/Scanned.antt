@@ -32,6 +32,7 @@ pub record Scanned (states : ℕ → Slot) (q : Query) (places room start : ℕ)
   pub untaken : Filled room (q .wanted) (below q (level1 states (q .length)) start) kept later
 
 module _ {states : ℕ → Slot} {q : Query} {places room : ℕ} where
+  -- at lo none is decided, with the runs over the slots before the last one of its block
   pub scanned-none : WellAsked q places → {r : Runs} {list later : List ℕ} → r ≡ runs states (q .lo) (q .length - 1)
       → list ≡ holdsOnly places [] → later ≡ holdsOnly room [] → Scanned states q places room (q .lo) r 0 0 list later
   scanned-none p e f g =
@@ -51,6 +52,7 @@ module _ {states : ℕ → Slot} {q : Query} {places room : ℕ} where
 
     -- the block at start decided, by the runs with its last slot
     module _ (p : WellAsked q places) (room-for : q .wanted ≤ room) (on : start ≤ q .hi) {r′ : Runs} (e : r′ ≡ further r (states (start + (q .length - 1)))) where
+      -- how many starts are decided
       abbrev m : ℕ
       m = start - q .lo
 
@@ -60,6 +62,7 @@ module _ {states : ℕ → Slot} {q : Query} {places room : ℕ} where
       one-more : start + 1 - q .lo ≡ m + 1
       one-more = omega (arith, s .from-lo)
 
+      -- the runs up to the block's last slot
       judged-now : r′ ≡ runs states (q .lo) (m + q .length)
       judged-now =
           let slot : start + (q .length - 1) ≡ q .lo + (m + (q .length - 1)) = omega (arith, s .from-lo) in
@@ -72,9 +75,11 @@ module _ {states : ℕ → Slot} {q : Query} {places room : ℕ} where
       is-level1 : (not (leb (q .length) (r′ .free)) && leb (q .length) (r′ .untaken)) ≡ level1 states (q .length) start
       is-level1 = rw (← at-start) (runs-level1 states (q .lo) m (q .length) r′ judged-now)
 
+      -- the starts below the next one
       below-next : (level : ℕ → Bool) → below q level (start + 1) ≡ below q level start ++ cond (level start) (start ∷ []) []
       below-next level = rw (one-more, keep-from-next, at-start)
 
+      -- one start more is decided
       pub scanned-next : {n′ kept′ : ℕ} {list′ later′ : List ℕ}
           → n′ ≡ next (leb (q .length) (r′ .free)) n (q .wanted)
           → list′ ≡ put (leb (q .length) (r′ .free)) n (q .wanted) start list

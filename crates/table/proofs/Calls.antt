@@ -3,7 +3,7 @@ use Prim.Native.Nat.{ℕ, zero, suc, _+_, _-_, _≤_}
 use native.Mathlib.Omega.{arith}
 use mathlib.Core.Path.{_≡_, refl, ap, _∙_, sym}
 use mathlib.Core.Bool.{Bool, true, false, not, true≢false}
-use mathlib.Core.List.{[], _∷_, _++_}
+use mathlib.Core.List.{List, [], _∷_, _++_}
 use lib.Dec.{ltb}
 use borrow.Author.Tests.{ltb-false}
 use lib.ListN.{length, length-append}
@@ -14,24 +14,32 @@ use Rattle.octets.proofs.Refusals.{firstOf-append, firstOf-stop, firstOf-zero, 
 use Rattle.record.specs.Record.{capacity}
 use Rattle.record.specs.declared.Rec.{Rec}
 use Rattle.sound.specs.Sound.{Channel, records, sound}
-use Rattle.sound.proofs.Sound.{Held, held}
+use Rattle.sound.proofs.Sound.{held}
 use Rattle.table.specs.declared.Request.{Request}
+use Rattle.table.specs.declared.Answer.{Answer}
 use Rattle.table.specs.Table.{Call, clock, reserve, distance, wipe, look, asked, requestTests, placeTests, tests, changed, reported, isLook}
 use Rattle.table.specs.Memory.{stateOf, read, packed, write, refusal, leaves, says, returned}
 use Rattle.table.specs.Steps.{refused, swept, added, addedMemory}
 
+-- `Gives m c r b`: the call is to return r and to leave the memory b
+abbrev pub Gives : Channel → Call → Answer → List ℕ → Type 0
+Gives m c r b = (r ≡ returned m c) × (b ≡ leaves m c .memory)
+
 -- ---- which refusal
 
+-- 11 where the table isn't sound
 pub refusal-unsound : (m : Channel) (c : Call) → sound m ≡ false → 11 ≡ refusal m c
 unfolding refusal
 refusal-unsound m c h = rw h
 
+-- else by the call's own tests
 pub refusal-sound : (m : Channel) (c : Call) → sound m ≡ true → refusal m c ≡ firstOf (tests (read m) c)
 unfolding refusal
 refusal-sound m c h = rw h
 
 -- ---- a refused call
 
+-- it leaves all as it was
 pub refused-leaves : (m : Channel) (c : Call) → (refusal m c ≡ 0 → ⊥) → m ≡ leaves m c
 unfolding leaves
 refused-leaves m (clock slot) h = answer-refused _ (λ _. m) refl h
@@ -40,9 +48,8 @@ refused-leaves m (distance s d limit) h = answer-refused _ (λ _. m) refl h
 refused-leaves m (wipe s) h = answer-refused _ (λ _. m) refl h
 refused-leaves m (look f) h = refl
 
--- what it gives back, and the memory at exit
-pub refused-gives : (m : Channel) (c : Call) (n : ℕ) → n ≡ refusal m c → (n ≡ 0 → ⊥)
-    → (refused n (stateOf m) ≡ returned m c) × (m .memory ≡ leaves m c .memory)
+-- its number, and nothing changed
+pub refused-gives : (m : Channel) (c : Call) (n : ℕ) → n ≡ refusal m c → (n ≡ 0 → ⊥) → Gives m c (refused n (stateOf m)) (m .memory)
 unfolding returned says
 refused-gives m c n e h =
     let l = refused-leaves m c (λ z. h (e ∙ z)) in (
@@ -50,8 +57,18 @@ refused-gives m c n e h =
       ap (λ (u : Channel). u .memory) l,
     )
 
+-- so where the table isn't sound
+pub unsound-gives : (m : Channel) (c : Call) → sound m ≡ false → Gives m c (refused 11 (stateOf m)) (m .memory)
+unsound-gives m c h = refused-gives m c 11 (refusal-unsound m c h) (omega arith)
+
+-- and where one of the call's own tests holds
+pub tested-gives : (m : Channel) (c : Call) → sound m ≡ true → (n : ℕ) → firstOf (tests (read m) c) ≡ n → (n ≡ 0 → ⊥)
+    → Gives m c (refused n (stateOf m)) (m .memory)
+tested-gives m c h n e z = refused-gives m c n (sym (refusal-sound m c h ∙ e)) z
+
 -- ---- an accepted call
 
+-- it leaves the changed table, unless it only looks
 accepted-leaves : (m : Channel) (c : Call) → 0 ≡ refusal m c → isLook c ≡ false → write (changed (read m) c) ≡ leaves m c
 unfolding leaves
 accepted-leaves m (clock slot) h n = answer-accepted (write (changed (read m) (clock slot))) (λ _. m) h
@@ -60,9 +77,9 @@ accepted-leaves m (distance s d limit) h n = answer-accepted (write (changed (re
 accepted-leaves m (wipe s) h n = answer-accepted (write (changed (read m) (wipe s))) (λ _. m) h
 accepted-leaves m (look f) h n = absurd (true≢false n)
 
+-- what it reports, and the changed table
 pub accepted-gives : (m : Channel) (c : Call) → 0 ≡ refusal m c → isLook c ≡ false
-    → (record { refusal = 0; number = reported (read m) c; state = stateOf (write (changed (read m) c)) } ≡ returned m c)
-    × (write (changed (read m) c) .memory ≡ leaves m c .memory)
+    → Gives m c (record { refusal = 0; number = reported (read m) c; state = stateOf (write (changed (read m) c)) }) (write (changed (read m) c) .memory)
 unfolding returned says
 accepted-gives m c h n =
     let l = accepted-leaves m c h n in (
@@ -71,26 +88,27 @@ accepted-gives m c h n =
     )
 
 -- one that keeps the records that pass p, at time t, and reports those that pass q, which are the others
-pub sweep-gives : (m : Channel) → Held m → (c : Call) → 0 ≡ refusal m c → isLook c ≡ false
+pub sweep-gives : (m : Channel) (c : Call) → sound m ≡ true → firstOf (tests (read m) c) ≡ 0 → isLook c ≡ false
     → (t : ℕ) (p q : Rec → Bool) → ((r : Rec) → q r ≡ not (p r))
     → changed (read m) c ≡ record { m1 = m .m1; now = t; capacity = capacity (m .memory); records = keep p (records m) }
     → reported (read m) c ≡ length (keep q (records m))
-    → (swept m t p ≡ returned m c) × (packed (capacity (m .memory)) (keep p (records m)) ≡ leaves m c .memory)
+    → Gives m c (swept m t p) (packed (capacity (m .memory)) (keep p (records m)))
 unfolding write
-sweep-gives m k c z n t p q f e r =
-    let g = accepted-gives m c z n in
-    let d : m .count - length (keep p (records m)) ≡ reported (read m) c = rw r (omega (arith, k .counted, length-keep-not p q f (records m))) in
+sweep-gives m c h z n t p q f e r =
+    let g = accepted-gives m c (sym (refusal-sound m c h ∙ z)) n in
+    let d : m .count - length (keep p (records m)) ≡ reported (read m) c = rw r (omega (arith, held m h .counted, length-keep-not p q f (records m))) in
     (rw (d, ← g .0, e), rw (← g .1, e))
 
 -- ---- a reserve
 
--- the numbers of a request that is not refused for them
+-- no number of a request is above its range
 pub record InRange (q : Request) : Type 0 where
   pub rate-most : q .rate ≤ 60
   pub superframes-most : q .superframes ≤ 3
   pub length-most : q .length ≤ 32
   pub bs-most : q .bs ≤ 255
 
+-- so it is where the request is not refused for its numbers
 pub request-passed : (q : Request) → firstOf (requestTests q) ≡ 0 → InRange q
 request-passed q z =
     let p = firstOf-zero (requestTests q) refl z in
@@ -103,17 +121,17 @@ request-passed q z =
     }
 
 module _ (m : Channel) (q : Request) where
+  -- the record that it asks for
   abbrev x : Rec
   x = asked (m .now) q
 
   -- refused for its numbers
-  pub request-refused : sound m ≡ true → (firstOf (requestTests q) ≡ 0 → ⊥) → firstOf (requestTests q) ≡ refusal m (reserve q)
+  pub request-refused : sound m ≡ true → (firstOf (requestTests q) ≡ 0 → ⊥) → Gives m (reserve q) (refused (firstOf (requestTests q)) (stateOf m)) (m .memory)
   unfolding read
-  request-refused h z = sym (refusal-sound m (reserve q) h ∙ firstOf-stop (requestTests q) (placeTests (read m) x) z)
+  request-refused h z = tested-gives m (reserve q) h _ (firstOf-stop (requestTests q) (placeTests (read m) x) z) z
 
   -- not refused for them, it goes by the place for its record
-  pub request-added : sound m ≡ true → firstOf (requestTests q) ≡ 0
-      → (added m x ≡ returned m (reserve q)) × (addedMemory m x ≡ leaves m (reserve q) .memory)
+  pub request-added : sound m ≡ true → firstOf (requestTests q) ≡ 0 → Gives m (reserve q) (added m x) (addedMemory m x)
   unfolding added addedMemory write read
   request-added h z = go (firstOf (placeTests (read m) x)) refl
     where
@@ -123,7 +141,7 @@ module _ (m : Channel) (q : Request) where
       l : length (records m ++ (x ∷ [])) ≡ m .count + 1
       l = length-append (records m) (x ∷ []) ∙ ap (λ n. n + 1) (held m h .counted)
 
-      go : (n : ℕ) → firstOf (placeTests (read m) x) ≡ n → (added m x ≡ returned m (reserve q)) × (addedMemory m x ≡ leaves m (reserve q) .memory)
+      go : (n : ℕ) → firstOf (placeTests (read m) x) ≡ n → Gives m (reserve q) (added m x) (addedMemory m x)
       go zero f =
           let g = accepted-gives m (reserve q) (sym (e ∙ f)) refl in
           (sym (answer-accepted _ _ (sym f)) ∙ rw (← l) (g .0), sym (answer-accepted _ _ (sym f)) ∙ g .1)

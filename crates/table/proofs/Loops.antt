@@ -1,11 +1,11 @@
 -- Loops over the first records of a memory: those that stay moved to the front, each one changed. Assumes nothing.
-use Prim.Native.Nat.{ℕ, zero, suc, _+_, _<_, _≤_}
+use Prim.Native.Nat.{ℕ, suc, _+_, _<_, _≤_}
 use native.Mathlib.Nat.{add-zero}
 use native.Mathlib.Numerals.{add-one}
 use native.Mathlib.Omega.{arith}
 use mathlib.Core.Path.{_≡_, refl, ap, _∙_, sym}
 use mathlib.Core.Bool.{Bool, true, false, cond}
-use mathlib.Core.List.{List, [], _∷_, _++_, map, append-assoc, append-nil}
+use mathlib.Core.List.{List, [], _∷_, _++_, map, append-assoc, append-nil, map-append}
 use lib.ListN.{length, getD, take, drop, set, length-append, length-take, length-drop, length-map}
 use lib.Seq.{take-suc, drop-cons, getD-at, set-at, length-take-le, getD-drop, drop-drop, drop-set-lt, take-set-le, take-suc-set}
 use Rattle.octets.specs.Lists.{keep}
@@ -14,22 +14,18 @@ use Rattle.record.specs.Record.{blank}
 use Rattle.record.specs.declared.Rec.{Rec}
 use Rattle.table.specs.Steps.{sieved, mapped}
 
--- a record written over itself
-pub set-itself : (vs : List Rec) (i : ℕ) → vs ≡ set vs i (getD vs i blank)
-set-itself [] i = refl
-set-itself (v ∷ vs) zero = refl
-set-itself (v ∷ vs) (suc i) = ap (λ (l : List Rec). v ∷ l) (set-itself vs i)
-
 -- ---- the records that pass, counted and moved to the front
 
 module _ (p : Rec → Bool) (vs : List Rec) where
+  -- of i records no more than i pass
   pub kept-le : (i : ℕ) → length (keep p (take i vs)) ≤ i
   kept-le i = omega (arith, length-keep p (take i vs), length-take i vs)
 
+  -- one record more
   keep-more : (i : ℕ) → i < length vs → keep p (take (i + 1) vs) ≡ keep p (take i vs) ++ cond (p (getD vs i blank)) (getD vs i blank ∷ []) []
   keep-more i h = rw (add-one, take-suc vs i blank h, keep-append)
 
-  -- one record more is counted where it passes
+  -- it is counted where it passes
   pub count-next : (w : List Rec) (i k : ℕ) → i < length vs → k ≡ length (keep p (take i vs)) → getD w i blank ≡ getD vs i blank
       → sieved p w i (k + 1) k ≡ length (keep p (take (i + 1) vs))
   count-next w i k h ek at = rw (at, keep-more i h, length-append, ← ek) (go (p (getD vs i blank)))
@@ -42,6 +38,7 @@ module _ (p : Rec → Bool) (vs : List Rec) where
   abbrev pub Sifted : List Rec → ℕ → ℕ → Type 0
   Sifted w i k = (k ≡ length (keep p (take i vs))) × (take k w ≡ keep p (take i vs)) × (drop i w ≡ drop i vs)
 
+  -- one record more is moved down, and counted where it passes
   pub sifted-next : (w : List Rec) (i k : ℕ) → i < length vs → Sifted w i k → Sifted (set w k (getD w i blank)) (i + 1) (sieved p w i (k + 1) k)
   sifted-next w i k h s = (count-next w i k h (s .0) at, rw (at, keep-more i h) (front (p (getD vs i blank))), back)
     where
@@ -61,21 +58,22 @@ module _ (p : Rec → Bool) (vs : List Rec) where
 
 -- ---- record after record changed
 
-map-append : (f : Rec → Rec) (xs ys : List Rec) → map f (xs ++ ys) ≡ map f xs ++ map f ys
-map-append f [] ys = refl
-map-append f (x ∷ xs) ys = ap (λ (l : List Rec). f x ∷ l) (map-append f xs ys)
-
+-- the first i records of vs are changed in w, and i is the next
 module _ (f : Rec → Rec) (vs w : List Rec) (i : ℕ) (h : i < length vs) (ew : w ≡ mapped f i vs) where
+  -- the next record stands behind the changed ones
   mapped-is : w ≡ map f (take i vs) ++ (getD vs i blank ∷ drop (suc i) vs)
   unfolding mapped
   mapped-is = ew ∙ rw (drop-cons vs i blank h)
 
+  -- which are i
   mapped-len : length (map f (take i vs)) ≡ i
   mapped-len = length-map (take i vs) f ∙ length-take-le i vs (omega arith)
 
+  -- it is as it was
   pub mapped-at : getD w i blank ≡ getD vs i blank
   mapped-at = rw (mapped-is, getD-at (map f (take i vs)) (getD vs i blank) (drop (suc i) vs) blank i mapped-len)
 
+  -- changed, it stands with the others
   pub mapped-next : set w i (f (getD w i blank)) ≡ mapped f (i + 1) vs
   unfolding mapped
   mapped-next =

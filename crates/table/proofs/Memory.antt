@@ -18,12 +18,9 @@ use Rattle.sound.proofs.Sound.{Held, tail-length}
 use Rattle.table.specs.Memory.{packed}
 use Rattle.table.specs.Steps.{mapped}
 
--- ---- the records kept
-
+-- the records kept are no more than there were
 pub length-kept : (m : Channel) → Held m → (p : Rec → Bool) → length (keep p (records m)) ≤ m .count
 length-kept m k p = omega (arith, k .counted, length-keep p (records m))
-
--- ---- what the calls leave
 
 -- records at the front of a memory, with the rest made 0
 pub packed-front : (m w : List ℕ) (rs : List Rec) → AreOctets w → length m ≡ capacity m * size → length w ≡ length m → length rs ≤ capacity m
@@ -34,10 +31,12 @@ packed-front m w rs b e l r f =
     let i = image-take w b (rw c (l ∙ e)) (length rs) (rw c r) in
     rw (← i, f, l, tail-length (length m) (capacity m) (length rs) e)
 
+-- the tail's octets: those of one record, and the rest
 one-less : (cap n : ℕ) → n < cap → (cap - n) * size ≡ size + (cap - (n + 1)) * size
 unfolding size
 one-less cap n h = omega arith
 
+-- zeros but for the first k
 drop-zeros : (k j : ℕ) → drop {A = ℕ} k (replicate (k + j) 0) ≡ replicate j 0
 drop-zeros k j = rw (← replicate-append-replicate {A = ℕ} k j 0) (drop-at {A = ℕ} (replicate k 0) (replicate j 0) k (length-replicate k 0))
 

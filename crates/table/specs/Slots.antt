@@ -37,6 +37,10 @@ said Reusable = record { refusal = 0; number = 1 }
 said Taken = record { refusal = 0; number = 2 }
 said (Refused n) = record { refusal = n; number = 0 }
 
+-- what a slot state gives on a sound table
+abbrev pub slotOn : Table → ℕ → Slot
+slotOn t slot = answer (firstOf (timeTests t slot)) (slotState (t .m1) (t .records) slot) Refused
+
 -- a slot state as a call that looks at the table
 abbrev pub asks : ℕ → Table → Said
-asks slot t = said (answer (firstOf (timeTests t slot)) (slotState (t .m1) (t .records) slot) Refused)
+asks slot t = said (slotOn t slot)

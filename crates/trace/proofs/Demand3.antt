@@ -30,10 +30,12 @@ use Rattle.trace.proofs.Simulation.{stays, left, run-left, log-left}
 none-beyond : (A : ℕ) → leb (2 ^ 27) A ≡ true → (r : Rec) → inRange r ≡ true → stays (is A) r ≡ true
 none-beyond A e r h = rw (ne-eqb (r .station) A (omega (arith, ranges r h .station, leb-true (2 ^ 27) A e)))
 
+-- so taking its records out changes nothing
 left-beyond : (t : Table) (A : ℕ) → Sound t → leb (2 ^ 27) A ≡ true → left (is A) t ≡ t
 left-beyond t A k e =
     ap (withRecords t) (keep-every (stays (is A)) (t .records) (every-sub inRange (stays (is A)) (none-beyond A e) (t .records) (all-in-range t k)))
 
+-- a wipe, accepted or refused, takes the station's records out
 after-wipe : (t : Table) (A : ℕ) → Sound t → after t (wipe A) ≡ left (is A) t
 unfolding after answer
 after-wipe t A k = by-test (leb (2 ^ 27) A) (λ e. rw e (sym (left-beyond t A k e))) (λ e. rw e)
@@ -59,6 +61,7 @@ settled : (m : Channel) (c : Call) (r : Answer) (x : List ℕ) → r ≡ returne
 unfolding returned
 settled m c r x p q = (rw (p, q), rw p)
 
+-- so calls that were made ran as the definitions say
 made-runs : {s t : State} {b d : List ℕ} {cs : List Call} {es : List (Call × Said)} → Made s b cs t d es
     → (channel t d ≡ runs (channel s b) cs) × (es ≡ logs (channel s b) cs)
 made-runs none = (refl, refl)
@@ -67,6 +70,7 @@ made-runs (made {s = s} {b = b} {x = x} {c = c} {cs = cs} {r = r} p q d) =
     let e = settled (channel s b) c r x p q in
     (i .0 ∙ ap (λ u. runs u cs) (e .0), rw (i .1, e .0, e .1))
 
+-- an accepted opening's promise settles the table that it leaves
 open-settled : (m1 : ℕ) (b : List ℕ) (o : Answer) (z : List ℕ) → o ≡ openReturned m1 b → z ≡ openLeaves m1 b .memory → o .refusal ≡ 0
     → (openRefusal m1 b ≡ 0) × (channel (o .state) z ≡ opened m1 b)
 unfolding openReturned openLeaves answer
@@ -89,6 +93,7 @@ real-calls m1 b o z p q e A cs s t x y es fs ms mt w v pw pv r =
 pub sound-opened : SoundOpened
 sound-opened m1 b o = rw (opened-write m1 b o) (sound-write (empty m1 b) (sound-empty m1 b o))
 
+-- what a call that changes the table leaves
 sound-acts : (m : Channel) (c : Call) → sound m ≡ true → sound (acts m c) ≡ true
 sound-acts m c h =
     answer-elim (write (changed (read m) c)) (λ _. m) (λ u. sound u ≡ true) (refusal m c)
@@ -103,6 +108,7 @@ sound-kept m (distance s d limit) h = sound-acts m (distance s d limit) h
 sound-kept m (wipe s) h = sound-acts m (wipe s) h
 sound-kept m (look f) h = h
 
+-- and what a sequence leaves
 sound-runs : (m : Channel) (cs : List Call) → sound m ≡ true → sound (runs m cs) ≡ true
 sound-runs m [] h = h
 sound-runs m (c ∷ cs) h = sound-runs (leaves m c) cs (sound-kept m c h)

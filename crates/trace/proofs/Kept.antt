@@ -34,11 +34,12 @@ after t c = answer (refusalOn t c) (changed t c) (λ _. t)
 unfoldable pub told : Table → Call → Said
 told t c = record { refusal = refusalOn t c; number = answer (refusalOn t c) (reported t c) (λ _. 0) }
 
--- the same of a sequence
+-- the table that a sequence leaves
 abbrev pub run : Table → List Call → Table
 run t [] = t
 run t (c ∷ cs) = run (after t c) cs
 
+-- the calls of a sequence, each with its answer
 abbrev pub log : Table → List Call → List (Call × Said)
 log t [] = []
 log t (c ∷ cs) = (c, told t c) ∷ log (after t c) cs
@@ -50,6 +51,7 @@ after-look t f = answer-elim t (λ _. t) (λ u. u ≡ t) (refusalOn t (look f)) 
 
 -- ---- a table whose octets are sound
 
+-- what soundness asks, over records
 pub record Sound (t : Table) : Type 0 where
   pub m1-fits : Parameters.fits 1 (t .m1) ≡ true
   pub capacity-fits : within 1 2048 (t .capacity) ≡ true
@@ -57,6 +59,7 @@ pub record Sound (t : Table) : Type 0 where
   pub room : len (t .records) ≤ t .capacity
   pub all-good : every (good (t .m1) (t .now)) (t .records) ≡ true
 
+-- the records of a sound table are in range
 pub all-in-range : (t : Table) → Sound t → every inRange (t .records) ≡ true
 all-in-range t k =
     every-sub (good (t .m1) (t .now)) inRange (λ r h. and-eq-true-iff (inRange r) (lasts (t .m1) (t .now) r) .0 h .0) (t .records) (k .all-good)
@@ -67,6 +70,7 @@ sound-with t rs k l g = record { m1-fits = k .m1-fits; capacity-fits = k .capaci
 
 -- ---- the records that reserve and distance write
 
+-- far as it is written is 0 or 1
 bit-most : (far : Bool) → leb (bit far) 1 ≡ true
 bit-most true = refl
 bit-most false = refl
@@ -91,6 +95,7 @@ asked-good t q k h =
     )
     (le-leb (t .now) (lastSlot (t .m1) (asked (t .now) q)) (unfold lastSlot in omega arith))
 
+-- and so it is after a distance, the station's own or as it was
 far-most : (own far : Bool) (held : ℕ) → leb held 1 ≡ true → leb (cond own (bit far) held) 1 ≡ true
 far-most true far held h = bit-most far
 far-most false far held h = h
@@ -104,6 +109,7 @@ setFar-good m1 now s far r h =
 
 -- ---- a call
 
+-- an accepted call leaves a sound table sound
 pub sound-changed : (t : Table) (c : Call) → Sound t → refusalOn t c ≡ 0 → Sound (changed t c)
 sound-changed t (clock slot) k h =
     let p = firstOf-zero (tests t (clock slot)) refl h in
@@ -133,10 +139,12 @@ sound-changed t (wipe s) k h =
     (every-keep (good (t .m1) (t .now)) p (t .records) (k .all-good))
 sound-changed t (look f) k h = k
 
+-- and so does any call
 pub sound-after : (t : Table) (c : Call) → Sound t → Sound (after t c)
 unfolding after
 sound-after t c k = answer-elim (changed t c) (λ _. t) Sound (refusalOn t c) (sound-changed t c k) (λ _. k)
 
+-- and any sequence
 pub sound-run : (t : Table) (cs : List Call) → Sound t → Sound (run t cs)
 sound-run t [] k = k
 sound-run t (c ∷ cs) k = sound-run (after t c) cs (sound-after t c k)

@@ -2,27 +2,25 @@
 use Prim.Native.Nat.{ℕ}
 use mathlib.Core.Path.{_≡_, refl, sym, ap, _∙_}
 use mathlib.Core.Bool.{true}
-use Rattle.octets.specs.Refusals.{firstOf, answer}
+use Rattle.octets.specs.Refusals.{answer}
 use Rattle.octets.proofs.Refusals.{by-test}
 use Rattle.sound.specs.Sound.{Channel, sound}
 use Rattle.table.specs.declared.Slot.{Slot}
 use Rattle.table.specs.declared.Slot.the-variants.{Free, Reusable, Taken, Refused}
-use Rattle.table.specs.Table.{Table, timeTests}
+use Rattle.table.specs.Table.{Table}
 use Rattle.table.specs.Memory.{read, write}
-use Rattle.table.specs.Slots.{slotState, slotAnswer, said, asks}
+use Rattle.table.specs.Slots.{slotAnswer, said, slotOn, asks}
 use Rattle.table.proofs.Looks.{says-look, says-look-unsound}
 use Rattle.trace.specs.Claims.{SlotStateLooks}
 use Rattle.trace.proofs.Kept.{Sound}
 use Rattle.trace.proofs.Written.{read-write, sound-write}
 
--- what a slot state gives on a sound table
-abbrev pub slotOn : Table → ℕ → Slot
-slotOn t slot = answer (firstOf (timeTests t slot)) (slotState (t .m1) (t .records) slot) Refused
-
+-- of a sound table's octets it goes by the records
 slot-sound : (m : Channel) (slot : ℕ) → sound m ≡ true → slotAnswer m slot ≡ slotOn (read m) slot
 unfolding slotAnswer read
 slot-sound m slot h = rw h
 
+-- and so of a table written as octets
 pub slot-write : (t : Table) (slot : ℕ) → Sound t → slotAnswer (write t) slot ≡ slotOn t slot
 slot-write t slot k = slot-sound (write t) slot (sound-write t k) ∙ ap (λ u. slotOn u slot) (read-write t k)
 

@@ -21,6 +21,7 @@ use Rattle.trace.specs.Sequences.{names, others, without, othersTold, ro
 use Rattle.trace.proofs.Kept.{refusalOn, after, after-look, told, run, log, Sound, sound-after}
 
 module _ (gone : ℕ → Bool) where
+  -- a record of a station that stays
   abbrev pub stays : Rec → Bool
   stays r = not (gone (r .station))
 
@@ -28,9 +29,11 @@ module _ (gone : ℕ → Bool) where
   abbrev pub left : Table → Table
   left t = withRecords t (keep stays (t .records))
 
+  -- a station that stays has records that stay
   of-stays : (s : ℕ) → gone s ≡ false → (r : Rec) → of s r ≡ true → stays r ≡ true
   of-stays s g r e = rw (eqb-true (r .station) s e, g)
 
+  -- and so has a reservation of its own
   same-stays : (a : Rec) → gone (a .station) ≡ false → (r : Rec) → same a r ≡ true → stays r ≡ true
   unfolding same
   same-stays a g r e =
@@ -38,12 +41,14 @@ module _ (gone : ℕ → Bool) where
       let q : a .station ≡ r .station = search eqb-true in
       rw (← q, g)
 
+  -- a record that stays is of no station that goes
   stays-not-of : (s : ℕ) → gone s ≡ true → (r : Rec) → stays r ≡ true → of s r ≡ false
   stays-not-of s g r e =
       ne-eqb (r .station) s λ q. true≢false (sym g ∙ ap gone (sym q) ∙ not-true (gone (r .station)) e)
 
   -- ---- a call of a station that goes: nothing of it is left
 
+  -- where it is accepted
   gone-changed : (t : Table) (c : Call) → names gone c ≡ true → left (changed t c) ≡ left t
   gone-changed t (clock slot) g = absurd (false≢true g)
   gone-changed t (reserve q) g =
@@ -55,12 +60,14 @@ module _ (gone : ℕ → Bool) where
       ap (withRecords t) (keep-sub stays (λ r. not (of s r)) (λ r e. rw (stays-not-of s g r e)) (t .records))
   gone-changed t (look f) g = absurd (false≢true g)
 
+  -- accepted or refused
   gone-after : (t : Table) (c : Call) → names gone c ≡ true → left (after t c) ≡ left t
   unfolding after
   gone-after t c g = answer-elim (changed t c) (λ _. t) (λ u. left u ≡ left t) (refusalOn t c) (λ _. gone-changed t c g) (λ _. refl)
 
   -- ---- any other call: it does the same to what is left
 
+  -- where it is accepted
   kept-changed : (t : Table) (c : Call) → names gone c ≡ false → changed (left t) c ≡ left (changed t c)
   kept-changed t (clock slot) g =
       ap (λ rs. record { m1 = t .m1; now = slot; capacity = t .capacity; records = rs }) (keep-comm (lasts (t .m1) slot) stays (t .records))
@@ -80,9 +87,11 @@ module _ (gone : ℕ → Bool) where
   abbrev early : Table → Request → List (ℕ × Bool)
   early t q = requestTests q ++ ((16, has (same (asked (t .now) q)) (t .records)) ∷ [])
 
+  -- none of them depends on a record that goes
   early-left : (t : Table) (q : Request) → gone (q .station) ≡ false → early (left t) q ≡ early t q
   early-left t q g = rw (has-keep (same (asked (t .now) q)) stays (same-stays (asked (t .now) q) g) (t .records))
 
+  -- so a reserve gets the same refusal, unless it was refused because the table was full
   reserve-refusal : (t : Table) (q : Request) → Sound t → gone (q .station) ≡ false → roomy gone (reserve q, told t (reserve q)) ≡ true
       → refusalOn (left t) (reserve q) ≡ refusalOn t (reserve q)
   unfolding told
@@ -123,6 +132,7 @@ module _ (gone : ℕ → Bool) where
   names-others (wipe s) g = rw g
   names-others (look f) g = refl
 
+  -- the tables left
   pub run-left : (t : Table) (cs : List Call) → Sound t → every (roomy gone) (log t cs) ≡ true → left (run t cs) ≡ run (left t) (without gone cs)
   run-left t [] k r = refl
   run-left t (c ∷ cs) k r =
@@ -130,6 +140,7 @@ module _ (gone : ℕ → Bool) where
       let i = run-left (after t c) cs (sound-after t c k) (p .1) in
       by-test (names gone c) (λ g. rw (g, i, gone-after t c g)) (λ g. rw (g, i, kept-after t k c g (p .0)))
 
+  -- the answers given to the others
   pub log-left : (t : Table) (cs : List Call) → Sound t → every (roomy gone) (log t cs) ≡ true
       → othersTold gone (log t cs) ≡ othersTold gone (log (left t) (without gone cs))
   log-left t [] k r = refl

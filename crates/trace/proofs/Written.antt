@@ -28,12 +28,14 @@ use Rattle.trace.proofs.Kept.{refusalOn, after, after-look, told, run, 
 
 -- ---- records read back
 
+-- a record in range fits its octets
 fit : (r : Rec) → inRange r ≡ true → FitRec r
 unfolding fields
 fit r h =
     let k = ranges r h in
     omega (arith, k .station, k .first, k .rate, k .superframes, k .length, k .far)
 
+-- records in range fit theirs
 all-fit : (rs : List Rec) → every inRange rs ≡ true → AllFit rs
 all-fit [] h = tt
 all-fit (r ∷ rs) h =
@@ -41,23 +43,28 @@ all-fit (r ∷ rs) h =
     (fit r (p .0), all-fit rs (p .1))
 
 module _ (cap : ℕ) (rs : List Rec) (h : len rs ≤ cap) where
+  -- a packed table has the octets of its capacity
   length-packed : len (packed cap rs) ≡ cap * size
   unfolding packed
   length-packed = rw (length-append, length-replicate, length-image) (unfold size in omega arith)
 
+  -- the capacity is read back
   capacity-packed : capacity (packed cap rs) ≡ cap
   unfolding capacity
   capacity-packed = div-eq-of-eq-mul-left (unfold size in lit< tt) length-packed
 
+  -- the records are read back
   records-packed : every inRange rs ≡ true → take (len rs) (view (packed cap rs)) ≡ rs
   unfolding packed
   records-packed r =
       view-front rs (replicate ((cap - len rs) * size) 0) (all-fit rs r) (unfold packed in rw capacity-packed h)
 
+-- behind the records all octets are 0
 rest-packed : (cap : ℕ) (rs : List Rec) → rest (len rs) (packed cap rs) ≡ replicate ((cap - len rs) * size) 0
 unfolding packed
 rest-packed cap rs = drop-at (image rs) (replicate ((cap - len rs) * size) 0) (len rs * size) (length-image rs)
 
+-- a sound table is read back from its octets
 pub read-write : (t : Table) → Sound t → read (write t) ≡ t
 unfolding read write records
 read-write t k =
@@ -65,12 +72,14 @@ read-write t k =
     let e = records-packed (t .capacity) (t .records) (k .room) (all-in-range t k) in
     λ i. record { m1 = t .m1; now = t .now; capacity = c i; records = e i }
 
+-- its records alone
 pub records-write : (t : Table) → Sound t → records (write t) ≡ t .records
 unfolding read
 records-write t k = ap (λ u. u .records) (read-write t k)
 
 -- ---- soundness over octets and over records
 
+-- a table that is sound over records is so over octets
 pub sound-write : (t : Table) → Sound t → sound (write t) ≡ true
 unfolding sound numbersFit write records
 sound-write t k =
@@ -90,6 +99,7 @@ sound-write t k =
     )
     (zeros-replicate ((cap - len rs) * size))
 
+-- and the other way round
 pub sound-read : (m : Channel) → sound m ≡ true → Sound (read m)
 unfolding read
 sound-read m h =
@@ -99,13 +109,16 @@ sound-read m h =
 -- ---- a call, and a sequence
 
 module _ (t : Table) (k : Sound t) where
+  -- a call gets the same refusal
   refusal-write : (c : Call) → refusal (write t) c ≡ refusalOn t c
   refusal-write c = refusal-sound (write t) c (sound-write t k) ∙ ap (λ u. refusalOn u c) (read-write t k)
 
+  -- a call that changes the table leaves the octets of the changed one
   acts-write : (c : Call) → acts (write t) c ≡ write (after t c)
   unfolding after
   acts-write c = rw (refusal-write c, read-write t k) (answer-map (changed t c) (λ _. t) write (refusalOn t c))
 
+  -- any call leaves the octets of what it leaves over records
   pub leaves-write : (c : Call) → leaves (write t) c ≡ write (after t c)
   unfolding leaves
   leaves-write (clock slot) = acts-write (clock slot)
@@ -114,17 +127,21 @@ module _ (t : Table) (k : Sound t) where
   leaves-write (wipe s) = acts-write (wipe s)
   leaves-write (look f) = ap write (sym (after-look t f))
 
+  -- whose records are read back
   pub leaves-records : (c : Call) → records (leaves (write t) c) ≡ after t c .records
   leaves-records c = rw (leaves-write c) (records-write (after t c) (sound-after t c k))
 
+  -- a call gets the same answer
   says-write : (c : Call) → says (write t) c ≡ told t c
   unfolding says told
   says-write c = rw (refusal-write c, read-write t k)
 
+-- a sequence leaves the octets of what it leaves over records
 pub runs-write : (t : Table) → Sound t → (cs : List Call) → runs (write t) cs ≡ write (run t cs)
 runs-write t k [] = refl
 runs-write t k (c ∷ cs) = rw (leaves-write t k c, runs-write (after t c) (sound-after t c k) cs)
 
+-- and gets the same answers
 pub logs-write : (t : Table) → Sound t → (cs : List Call) → logs (write t) cs ≡ log t cs
 logs-write t k [] = refl
 logs-write t k (c ∷ cs) = rw (leaves-write t k c, says-write t k c, logs-write (after t c) (sound-after t c k) cs)
@@ -136,6 +153,7 @@ abbrev pub empty : ℕ → List ℕ → Table
 empty m1 b = record { m1 = m1; now = 0; capacity = capacity b; records = [] }
 
 module _ (m1 : ℕ) (b : List ℕ) (o : openRefusal m1 b ≡ 0) where
+  -- M1 fits its row, and the memory is a whole number of records, 1 to 2,048
   open-fits : (Parameters.fits 1 m1 ≡ true) × (whole b ≡ true) × (within 1 2048 (capacity b) ≡ true)
   unfolding openRefusal
   open-fits =
@@ -143,15 +161,29 @@ module _ (m1 : ℕ) (b : List ℕ) (o : openRefusal m1 b ≡ 0) where
       let size = and-eq-true-iff (whole b) (within 1 2048 (capacity b)) .0 (not-false (sizeFits b) (p .1 .0)) in
       (not-false (Parameters.fits 1 m1) (p .0), size .0, size .1)
 
+  -- the table that it leaves is sound
   pub sound-empty : Sound (empty m1 b)
   sound-empty =
       record { m1-fits = open-fits .0; capacity-fits = open-fits .2; now-most = zero-le; room = zero-le; all-good = refl }
 
+  -- the octets left are those of the empty table
   pub opened-write : opened m1 b ≡ write (empty m1 b)
   unfolding write packed image
   opened-write =
       let e : (capacity b - 0) * size ≡ len b = unfold size in omega (arith, whole-length b (open-fits .1)) in
       rw e
 
+  -- so a sequence after it goes by records
   pub opened-runs : (cs : List Call) → runs (opened m1 b) cs ≡ write (run (empty m1 b) cs)
   opened-runs cs = rw (opened-write, runs-write (empty m1 b) sound-empty cs)
+
+-- ---- the table of the cases: M1 4500, and room for one record
+
+-- the octets lent for it
+abbrev pub lent : List ℕ
+lent = replicate 12 0
+
+-- its opening is accepted
+pub lent-accepted : openRefusal 4500 lent ≡ 0
+unfolding openRefusal Parameters.fits capacity size
+lent-accepted = refl

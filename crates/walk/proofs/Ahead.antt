@@ -1,6 +1,6 @@
--- Laws of the records that a walk has, and of those ahead of it. Assumes nothing.
+-- Laws of the records that a walk has, of those ahead of it, and of a view placed elsewhere. Assumes nothing.
 use Prim.Native.Nat.{ℕ, _+_, _<_, _≤_}
-use mathlib.Core.Path.{_≡_, sym, ap, _∙_}
+use mathlib.Core.Path.{_≡_, refl, sym, ap, _∙_}
 use mathlib.Core.Bool.{true, false}
 use mathlib.Core.List.{List, [], _∷_}
 use lib.ListN.{length as len, take, drop, getD, drop-of-length-le}
@@ -45,6 +45,17 @@ module _ (rs : List Rec) (held count i : ℕ) (room : held ≤ len rs) (same : t
   reached-none h =
       let past : len (take held rs) ≤ i = rw (length-take-le held rs room) h in
       rw (← same, drop-of-length-le (take held rs) past)
+
+-- ---- a view at another place
+
+-- the view made of the old one's slice and count, and another next record
+abbrev pub moved : View → ℕ → View
+moved v i = record { memory = v .memory; next = i; count = v .count }
+
+-- it is the one placed there
+pub moved-placed : (v : View) (i : ℕ) → moved v i ≡ placed v i
+unfolding placed
+moved-placed v i = refl
 
 -- ---- a step
 

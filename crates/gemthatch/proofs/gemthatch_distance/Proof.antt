@@ -15,7 +15,9 @@ use Rattle.gemthatch.proofs.gemthatch_distance.Tie as tie
 
 module _ (c : tie.After-distance-of) where
   abbrev given : Channel
-  given = lent (c .before .before .args .m1) (c .before .before .args .time) (c .before .before .args .count) (now (c .before .before .args .memory))
+  given =
+      let a = c .before .before .args in
+      lent (a .m1) (a .time) (a .count) (now (a .memory))
 
   -- the call, by its distance
   abbrev call : Distance → Call

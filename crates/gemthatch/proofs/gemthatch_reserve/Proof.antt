@@ -15,21 +15,15 @@ use Rattle.gemthatch.proofs.gemthatch_reserve.Tie as tie
 
 module _ (c : tie.After-distance-of) where
   abbrev given : Channel
-  given = lent (c .before .before .args .m1) (c .before .before .args .time) (c .before .before .args .count) (now (c .before .before .args .memory))
+  given =
+      let a = c .before .before .args in
+      lent (a .m1) (a .time) (a .count) (now (a .memory))
 
   -- the call, by its distance
   abbrev call : Distance → Call
   call d =
-      reserve
-      (record {
-        station = c .before .before .args .station;
-        rate = c .before .before .args .rate;
-        superframes = c .before .before .args .superframes;
-        bs = c .before .before .args .bs;
-        length = c .before .before .args .length;
-        distance = d;
-        limit = c .before .before .args .limit;
-      })
+      let a = c .before .before .args in
+      reserve (record { station = a .station; rate = a .rate; superframes = a .superframes; bs = a .bs; length = a .length; distance = d; limit = a .limit })
 
 -- ---- the needs
 

@@ -2,21 +2,40 @@
 use Prim.Native.Nat.{_<_}
 use native.Mathlib.Omega.{arith}
 use mathlib.Core.Path.{_≡_, sym, _∙_}
-use mathlib.Core.Bool.{true, false}
+use mathlib.Core.Bool.{false}
 use denote.Ref.{now}
 use borrow.Author.Tests.{eq-eqb, ne-eqb}
+use borrow.Author.Needs.{needs}
 use Rattle.octets.specs.Lists.{has}
 use Rattle.octets.proofs.Refusals.{answer-refused, answer-accepted}
 use Rattle.record.specs.Record.{capacity}
-use Rattle.sound.specs.Sound.{records}
-use Rattle.sound.proofs.Sound.{held}
+use Rattle.sound.specs.Sound.{Channel, records}
+use Rattle.sound.proofs.Sound.{Held, held}
 use Rattle.table.specs.Table.{same}
 use Rattle.table.specs.Memory.{channel, read}
 use Rattle.table.specs.Steps.{added, addedMemory}
 use Rattle.table.proofs.Memory.{packed-end}
-use borrow.Author.Needs.{needs}
 use Rattle.table.proofs.add.Statement.{statement}
 use Rattle.table.proofs.add.Tie as tie
+
+-- ---- what is known at a place
+
+module _ (c : tie.After-has-same) where
+  abbrev entry : tie.Start
+  entry = c .before .before .before .before
+
+  abbrev given : Channel
+  given = channel (entry .args .s) (now (entry .args .memory))
+
+  all-held : Held given
+  all-held = held given (entry .pre)
+
+-- the record is not held already
+is-new : (c : tie.Else1) → has (same (entry (c .before) .args .x)) (records (given (c .before))) ≡ false
+unfolding records
+is-new c = sym (c .before .has-same .ensures) ∙ c .if1 .left
+
+-- ---- the needs
 
 cast-n : tie.Need-cast-n
 cast-n c = search needs
@@ -33,10 +52,8 @@ same-length c = search needs
 returns : tie.Need-returns
 unfolding added addedMemory read records
 returns c =
-    let s = c .before .before .before .before .before .before in
-    let M = channel (s .args .s) (now (s .args .memory)) in
-    let f : has (same (s .args .x)) (records M) ≡ true = sym (c .before .before .has-same .ensures) ∙ c .before .if1 .taken in
-    (c .refuse .ensures ∙ answer-refused _ _ (rw f) (omega arith), answer-refused _ _ {n = 16} (rw f) (omega arith))
+    let old = sym (c .before .before .has-same .ensures) ∙ c .before .if1 .taken in
+    (c .refuse .ensures ∙ answer-refused _ _ (rw old) (omega arith), answer-refused _ _ {n = 16} (rw old) (omega arith))
 
 capacity-requires : tie.Need-capacity-requires
 capacity-requires c κs = search needs
@@ -51,22 +68,16 @@ returns-2 : tie.Need-returns-2
 unfolding added addedMemory read records
 returns-2 c =
     let at-if1 = c .before .before .before .before in
-    let at-has-same = at-if1 .before in
-    let s = at-has-same .before .before .before .before in
-    let M = channel (s .args .s) (now (s .args .memory)) in
-    let k = held M (s .pre) in
-    let f : has (same (s .args .x)) (records M) ≡ false = sym (at-has-same .has-same .ensures) ∙ at-if1 .if1 .left in
+    let k = all-held (at-if1 .before) in
     let full = eq-eqb _ _ (c .before .if2 .taken ∙ c .before .before .capacity .ensures) in
-    (c .refuse2 .ensures ∙ answer-refused _ _ (rw (f, k .counted, full)) (omega arith), answer-refused _ _ {n = 17} (rw (f, k .counted, full)) (omega arith))
+    (c .refuse2 .ensures ∙ answer-refused _ _ (rw (is-new at-if1, k .counted, full)) (omega arith), answer-refused _ _ {n = 17} (rw (is-new at-if1, k .counted, full)) (omega arith))
 
 store-requires : tie.Need-store-requires
 store-requires c κs = search needs
 
 add-count : tie.Need-add-count
 add-count c =
-    let s = c .before .before .before .before .before .before .before .before .before .before .before .before .before in
-    let M = channel (s .args .s) (now (s .args .memory)) in
-    let k = held M (s .pre) in
+    let k = all-held (c .before .before .before .before .before .before .before .before .before) in
     omega (arith, k .room, k .capacity-most)
 
 same-length-3 : tie.Need-same-length-3
@@ -76,19 +87,16 @@ returns-3 : tie.Need-returns-3
 unfolding added addedMemory read records
 returns-3 c =
     let at-if2 = c .before .before .before .before .before in
-    let at-capacity = at-if2 .before in
-    let at-if1 = at-capacity .before .before in
-    let at-has-same = at-if1 .before in
-    let at-slice = at-has-same .before .before .before in
-    let s = at-slice .before in
-    let M = channel (s .args .s) (now (s .args .memory)) in
-    let k = held M (s .pre) in
-    let f : has (same (s .args .x)) (records M) ≡ false = sym (at-has-same .has-same .ensures) ∙ at-if1 .if1 .left in
-    let other : M .count ≡ capacity (now (s .args .memory)) → ⊥ = λ e. at-if2 .if2 .left (e ∙ sym (at-capacity .capacity .ensures)) in
-    let room : M .count < capacity (now (s .args .memory)) = omega (arith, k .room, other) in
-    let free = ne-eqb (M .count) (capacity (now (s .args .memory))) other in (
-      answer-accepted _ _ (rw (f, k .counted, free)),
-      c .before .before .before .store .ensures .0 ∙ packed-end M (s .args .x) k (λ i. at-slice .slice-known .given i .fits) room ∙ answer-accepted _ _ (rw (f, k .counted, free)),
+    let at-if1 = at-if2 .before .before .before in
+    let x = at-if1 .before in
+    let m = given x in
+    let k = all-held x in
+    let other : m .count ≡ capacity (m .memory) → ⊥ = λ e. at-if2 .if2 .left (e ∙ sym (at-if2 .before .capacity .ensures)) in
+    let room : m .count < capacity (m .memory) = omega (arith, k .room, other) in
+    let free = ne-eqb (m .count) (capacity (m .memory)) other in
+    let end = packed-end m (entry x .args .x) k (λ i. x .before .before .before .slice-known .given i .fits) room in (
+      answer-accepted _ _ (rw (is-new at-if1, k .counted, free)),
+      c .before .before .before .store .ensures .0 ∙ end ∙ answer-accepted _ _ (rw (is-new at-if1, k .counted, free)),
     )
 
 pub add-spec : {M : Type 1} → statement M

@@ -1,7 +1,7 @@
 -- `table::does_stay` meets its contract: it computes the definition. Assumes nothing.
+use borrow.Author.Needs.{needs}
 use Rattle.sound.specs.Sound.{lasts}
 use Rattle.table.specs.Steps.{stays}
-use borrow.Author.Needs.{needs}
 use Rattle.table.proofs.does_stay.Statement.{statement}
 use Rattle.table.proofs.does_stay.Tie as tie
 

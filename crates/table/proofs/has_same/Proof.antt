@@ -1,6 +1,7 @@
 -- `table::has_same` meets its contract: the records still to come say the same as the whole. Assumes nothing.
-use Prim.Native.Nat.{_-_}
+use Prim.Native.Nat.{_+_, _-_}
 use mathlib.Core.Path.{_≡_}
+use mathlib.Core.Bool.{_||_}
 use native.Mathlib.Omega.{arith}
 use borrow.Author.Needs.{needs}
 use denote.Ref.{now}
@@ -18,6 +19,17 @@ Inv-loop memory n x held i₀ i = has (same x) (take n (view memory)) ≡ has (s
 abbrev μ-loop : tie.MeasureT-loop
 μ-loop memory n x held i₀ i = held - i
 
+-- the record loaded is asked, and then those after it
+asked : (c : tie.After-is-same Inv-loop μ-loop)
+    → let h = c .before .before .before in
+    let a = h .before .before .before .args in
+    has (same (a .x)) (take (a .n) (view (now (a .memory)))) ≡ (c .is-same .result || has (same (a .x)) (toCome (h .loop .i + 1) (h .before .held-count .result) (now (a .memory))))
+asked c =
+    let h = c .before .before .before in
+    let n = h .before .held-count in
+    let next = toCome-next (h .loop .i) (n .result) (now (h .before .before .before .args .memory)) (c .before .before .loop-test .taken) (n .ensures .1) in
+    rw (h .loop .inv, next, ← c .before .load .ensures, ← c .is-same .ensures)
+
 held-count-requires : tie.Need-held-count-requires Inv-loop μ-loop
 held-count-requires c κs = search needs
 
@@ -31,17 +43,7 @@ is-same-requires : tie.Need-is-same-requires Inv-loop μ-loop
 is-same-requires c κs = search needs
 
 returns : tie.Need-returns Inv-loop μ-loop
-returns c =
-    let h = c .before .before .before .before in
-    let s = h .before .before .before in
-    let n = h .before .held-count in
-    rw (
-      h .loop .inv,
-      toCome-next (h .loop .i) (n .result) (now (s .args .memory)) (c .before .before .before .loop-test .taken) (n .ensures .1),
-      ← c .before .before .load .ensures,
-      ← c .before .is-same .ensures,
-      c .if1 .taken,
-    )
+returns c = rw (asked (c .before), c .if1 .taken)
 
 add-i : tie.Need-add-i Inv-loop μ-loop
 add-i c = omega arith
@@ -50,23 +52,12 @@ loop-less : tie.Need-loop-less Inv-loop μ-loop
 loop-less c = omega arith
 
 loop-again : tie.Need-loop-again Inv-loop μ-loop
-loop-again c =
-    let h = c .before .before .before .before in
-    let s = h .before .before .before in
-    let n = h .before .held-count in
-    rw (
-      h .loop .inv,
-      toCome-next (h .loop .i) (n .result) (now (s .args .memory)) (c .before .before .before .loop-test .taken) (n .ensures .1),
-      ← c .before .before .load .ensures,
-      ← c .before .is-same .ensures,
-      c .if1 .left,
-    )
+loop-again c = rw (asked (c .before), c .if1 .left)
 
 returns-2 : tie.Need-returns-2 Inv-loop μ-loop
 returns-2 c =
     let h = c .before in
-    let s = h .before .before .before in
-    rw (h .loop .inv, toCome-none (h .loop .i) (h .before .held-count .result) (now (s .args .memory)) (c .loop-test .left))
+    rw (h .loop .inv, toCome-none (h .loop .i) (h .before .held-count .result) (now (h .before .before .before .args .memory)) (c .loop-test .left))
 
 pub has-same-spec : {M : Type 1} → statement M
 has-same-spec =

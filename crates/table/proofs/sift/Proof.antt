@@ -1,8 +1,8 @@
 -- `table::sift` meets its contract: the record is moved, and counted where it stays. Assumes nothing.
 use mathlib.Core.Path.{refl}
 use native.Mathlib.Omega.{arith}
-use Rattle.record.specs.Record.{capacity, size}
 use borrow.Author.Needs.{needs}
+use Rattle.record.specs.Record.{capacity, size}
 use Rattle.table.proofs.sift.Statement.{statement}
 use Rattle.table.proofs.sift.Tie as tie
 

@@ -3,17 +3,36 @@ use Prim.Native.Nat.{_≤_}
 use native.Mathlib.Omega.{arith}
 use mathlib.Core.Path.{_≡_, _∙_}
 use denote.Ref.{now}
+use borrow.Author.Needs.{needs}
 use lib.ListN.{length}
 use Rattle.octets.specs.Lists.{keep}
 use Rattle.record.specs.Record.{capacity}
-use Rattle.sound.specs.Sound.{records}
-use Rattle.sound.proofs.Sound.{held}
+use Rattle.sound.specs.Sound.{Channel, records}
+use Rattle.sound.proofs.Sound.{Held, held}
 use Rattle.table.specs.Memory.{channel}
 use Rattle.table.specs.Steps.{stays}
 use Rattle.table.proofs.Memory.{length-kept, packed-front}
-use borrow.Author.Needs.{needs}
 use Rattle.table.proofs.sweep.Statement.{statement}
 use Rattle.table.proofs.sweep.Tie as tie
+
+-- ---- what is known at a place
+
+module _ (c : tie.After-compact) where
+  abbrev entry : tie.Start
+  entry = c .before .before .before .before
+
+  abbrev given : Channel
+  given = channel (entry .args .s) (now (entry .args .memory))
+
+  all-held : Held given
+  all-held = held given (entry .pre)
+
+  -- no more stay than there were
+  kept-most : c .compact .result ≤ given .count
+  unfolding records
+  kept-most = omega (arith, c .compact .ensures .0, length-kept given all-held (stays (entry .args .rule)))
+
+-- ---- the needs
 
 cast-n : tie.Need-cast-n
 cast-n c = search needs
@@ -25,27 +44,15 @@ clear-requires : tie.Need-clear-requires
 clear-requires c κs = search needs
 
 sub-t12 : tie.Need-sub-t12
-unfolding records
-sub-t12 c =
-    let at-compact = c .before .before .before .before .before .before in
-    let s = at-compact .before .before .before .before in
-    let M = channel (s .args .s) (now (s .args .memory)) in
-    let k = held M (s .pre) in
-    let kept : at-compact .compact .result ≡ length (keep (stays (s .args .rule)) (records M)) = at-compact .compact .ensures .0 in
-    omega (arith, length-kept M k (stays (s .args .rule)))
+sub-t12 c = kept-most (c .before .before .before .before .before .before)
 
 cast-t13 : tie.Need-cast-t13
 cast-t13 c = search needs
 
 cast-t14 : tie.Need-cast-t14
-unfolding records
 cast-t14 c =
-    let at-compact = c .before .before .before .before .before .before in
-    let s = at-compact .before .before .before .before in
-    let M = channel (s .args .s) (now (s .args .memory)) in
-    let k = held M (s .pre) in
-    let kept : at-compact .compact .result ≡ length (keep (stays (s .args .rule)) (records M)) = at-compact .compact .ensures .0 in
-    omega (arith, length-kept M k (stays (s .args .rule)), k .room, k .capacity-most)
+    let x = c .before .before .before .before .before .before in
+    omega (arith, kept-most x, all-held x .room, all-held x .capacity-most)
 
 same-length : tie.Need-same-length
 same-length c = search needs
@@ -54,16 +61,12 @@ returns : tie.Need-returns
 unfolding records
 returns c =
     let at-slice = c .before .before .before .before in
-    let at-compact = at-slice .before .before in
-    let s = at-compact .before .before .before .before in
-    let M = channel (s .args .s) (now (s .args .memory)) in
-    let k = held M (s .pre) in
-    let kept : at-compact .compact .result ≡ length (keep (stays (s .args .rule)) (records M)) = at-compact .compact .ensures .0 in
-    let room : length (keep (stays (s .args .rule)) (records M)) ≤ capacity (now (s .args .memory)) = omega (arith, length-kept M k (stays (s .args .rule)), k .room) in (
-      rw kept,
-      c .before .before .clear .ensures
-          ∙ rw kept (packed-front (now (s .args .memory)) (at-compact .compact .last .0) (keep (stays (s .args .rule)) (records M)) (λ i. at-slice .slice-known2 .given i .fits) (k .whole-records) (at-compact .compact .kept .0) room (rw kept at (at-compact .compact .ensures .1))),
-    )
+    let x = at-slice .before .before in
+    let rs = keep (stays (entry x .args .rule)) (records (given x)) in
+    let kept : x .compact .result ≡ length rs = x .compact .ensures .0 in
+    let room : length rs ≤ capacity (given x .memory) = omega (arith, kept-most x, all-held x .room) in
+    let front = packed-front (given x .memory) (x .compact .last .0) rs (λ i. at-slice .slice-known2 .given i .fits) (all-held x .whole-records) (x .compact .kept .0) room (rw kept at (x .compact .ensures .1)) in
+    (rw kept, c .before .before .clear .ensures ∙ rw kept front)
 
 pub sweep-spec : {M : Type 1} → statement M
 sweep-spec =

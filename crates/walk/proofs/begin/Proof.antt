@@ -1,6 +1,5 @@
 -- `walk::begin` meets its contract: a walk of its MIR, by hand. `started` is called on the state and the slice, a view is made of the slice, 0 and the count that it returned, and it is put into a struct beside the refusal that it returned.
--- A `&[u8]` is Copy: what it owns is had three times, for the callee, for memory at exit and inside the result. What the state owns, and each number, are facts, which are made anew. All that the proof knows of the callee is that it meets its contract.
--- Assumes nothing.
+-- A `&[u8]` is Copy: what it owns is had three times, for `started`, for memory at exit and inside the result. What the state owns, and each number, are facts, which are made anew. All that the proof knows of `started` is that it meets its contract. Assumes nothing.
 use mathlib.Core.Path.{_≡_, refl, ap}
 use Prim.Native.Nat.{ℕ, _<_, _^_}
 use mathlib.Core.List.{List, [], _∷_}
@@ -64,11 +63,11 @@ use Rattle.walk.proofs.begin as f
 use Rattle.walk.proofs.begin.Statement as stated
 use Rattle.walk.proofs.begin.Code as code
 
--- what is had of the parameters at exit: nothing is given up
+-- nothing is said of a parameter at exit: each is Copy
 abbrev stayed : Stays (f.ended .signature .params) (f.ended .kept)
 stayed = (stay-none (λ _. S.the-row) yes, (stay-none-slice (0 ∷ []) tt (plain (λ _. u8)) yes, tt))
 
--- the contract that the proof cites
+-- the contract of `started`
 abbrev Started : {M : Type 1} (𝓤 : URA M) (H : Heap 𝓤) (A : Atoms 𝓤) (mem : Memory → SProp 𝓤) (run : Routine → Fun 𝓤) → Contract 𝓤
 Started 𝓤 H A mem run = tripleOf 𝓤 H A starts.signature (starts.spec 𝓤 H A mem run)
 
@@ -86,19 +85,19 @@ unfolding begun started
 is-begun s b r e = ap (made b) e
 
 module _ {M : Type 1} (𝓤 : URA M) (H : Heap 𝓤) (A : Atoms 𝓤) (W : Given 𝓤 H A) (mem : Memory → SProp 𝓤) (run : Routine → Fun 𝓤) (κ : Lft) (q : Share) (s : State) (b : RefT (List ℕ)) where
-  -- 'a of the signature
+  -- the signature's lifetime
   abbrev α : NamedLft
   α = namedLft 1 0 tt (κ, tt)
 
-  -- the state's machine value
+  -- the machine value of s
   abbrev mach : Val
   mach = S′.lowered s
 
-  -- the slice's
+  -- the machine value of memory
   abbrev v : Val
   v = sliceVal (b .ptr) (length (b .now))
 
-  -- what is passed
+  -- the parameters' machine values
   abbrev at : Vals f.signature (κ, tt)
   at = (mach ∷ [], (v ∷ [], tt))
 
@@ -110,15 +109,15 @@ module _ {M : Type 1} (𝓤 : URA M) (H : Heap 𝓤) (A : Atoms 𝓤) (W : Given
   abbrev Own : Fml
   Own = ShrSlice (named 0) κ u8 .own b (v ∷ [])
 
-  -- what `started` is passed
+  -- the call of `started`
   abbrev to-started : Started 𝓤 H A mem run .Ghost
   to-started = (((κ, tt), (q, tt), tt, (s, (b, tt)), at), tt)
 
-  -- what it asks
+  -- what the call asks is what `started` has at its entry
   asked : ent 𝓤 (onEntry 𝓤 H A starts.signature (κ, tt) (q, tt) (s, (b, tt)) at) (Started 𝓤 H A mem run .pre to-started)
   asked = qed W ((‵ (flft κ q) ⊛ ‵ ftrue) ∷ ‵ (owns (S.the-row ∷ ShrSlice (named 0) κ u8 ∷ []) (s, (b, tt)) at) ∷ []) ∵ join ! $ frame ! $ done !
 
-  -- that is had at entry, and what memory owns once more
+  -- what memory owns is kept beside what `started` is handed
   hands : ent 𝓤 (onEntry 𝓤 H A f.signature (κ, tt) (q, tt) (s, (b, tt)) at) (sep 𝓤 (Started 𝓤 H A mem run .pre to-started) (sem 𝓤 H A Own))
   hands =
       qed W ((‵ (flft κ q) ⊛ ‵ ftrue) ∷ ‵ (owns (S.the-row ∷ ShrSlice (named 0) κ u8 ∷ []) (s, (b, tt)) at) ∷ []) ∵
@@ -126,7 +125,7 @@ module _ {M : Type 1} (𝓤 : URA M) (H : Heap 𝓤) (A : Atoms 𝓤) (W : Given
       -- [what memory owns; the same; nothing; what s owns; the token]
       move ! (0 ∷ 2 ∷ []) $ fjoin ! $ move ! (2 ∷ 0 ∷ []) $ fjoin ! $ move ! (2 ∷ 0 ∷ []) $ use2 W (raw (Started 𝓤 H A mem run .pre to-started)) asked $ frame ! $ done !
 
-  -- of its `ensured`, the clause alone
+  -- of `started`'s `ensured`, the clause alone
   said : (r : Start) → ent 𝓤 (ensured 𝓤 H A starts.ended (starts.clauses 𝓤 H A mem run) (κ, tt) (s, (b, tt)) tt r) (fact 𝓤 (r ≡ started (channel s (now b))))
   said r = exE 𝓤 _ (λ ws. snd∗ 𝓤 (sem 𝓤 H A (lasts starts.ended (κ, tt) (s, (b, tt)) ws)) (fact 𝓤 (r ≡ started (channel s (now b)))))
 
@@ -145,7 +144,7 @@ module _ {M : Type 1} (𝓤 : URA M) (H : Heap 𝓤) (A : Atoms 𝓤) (W : Given
       by ! (own-shut 𝓤 H A W (Z.the-type α) (Z′.the-laws α) (r .refusal, (viewed b (r .count), tt)))
 
   module _ (C : Calls 𝓤 H) (Λ : Loops 𝓤 H) (fm : FmC 𝓤 H (W .laws) C) (known : Triple 𝓤 (C #walk·started) (Started 𝓤 H A mem run)) where
-    -- the body, statement by statement
+    -- the MIR, statement by statement
     walk : Is S.the-row s (mach ∷ []) → Is (ShrSlice (named 0) κ u8) b (v ∷ []) → ent 𝓤 (onEntry 𝓤 H A f.signature (κ, tt) (q, tt) (s, (b, tt)) at) (WpFn 𝓤 H C Λ code.function (mach ∷ v ∷ []) Post)
     walk p p′ =
         qed W (raw (onEntry 𝓤 H A f.signature (κ, tt) (q, tt) (s, (b, tt)) at) ∷ []) ∵ enter ! C Λ code.function (mach ∷ v ∷ []) _ $
@@ -174,16 +173,19 @@ module _ {M : Type 1} (𝓤 : URA M) (H : Heap 𝓤) (A : Atoms 𝓤) (W : Given
         by ! (exits r u p (LL.owed R.the-type R′.the-laws r _ is .0 .1) (LL.owed R.the-type R′.the-laws r _ is .1 .0 .1) e))))))))))
 
 module _ {M : Type 1} (𝓤 : URA M) (H : Heap 𝓤) (A : Atoms 𝓤) (W : Given 𝓤 H A) (mem : Memory → SProp 𝓤) (run : Routine → Fun 𝓤) where
+  -- the walk at each lifetime, share and argument
   begin-walks : (C : Calls 𝓤 H) (Λ : Loops 𝓤 H) → FmC 𝓤 H (W .laws) C → Triple 𝓤 (C #walk·started) (Started 𝓤 H A mem run) → Walks 𝓤 H A f.ended stayed (WpFn 𝓤 H C Λ code.function) (f.clauses 𝓤 H A mem run)
   begin-walks C Λ fm known = walked 𝓤 H A f.ended stayed (f.clauses 𝓤 H A mem run) (WpFn 𝓤 H C Λ code.function) (λ κs. (LL.vals S.the-type S′.the-laws, (slice-vals, tt))) (λ κs. (LL.tells S.the-type S′.the-laws, (shr-slice-tells (named 0) (κs .0) u8, tt)))
       (λ κs qs bounds a g are. via 𝓤 _ (fst∗ 𝓤 _ (emp 𝓤)) (walk 𝓤 H A W mem run (κs .0) (qs .0) (a .0) (a .1 .0) C Λ fm known (are .0) (are .1 .0)))
 
+-- the walk, taken to the contract
 begin-meets : {M : Type 1} (𝓤 : URA M) (H : Heap 𝓤) (A : Atoms 𝓤) → Given 𝓤 H A → (mem : Memory → SProp 𝓤) (run : Routine → Fun 𝓤) (𝓣 : Tables 𝓤 H) → Triple 𝓤 (𝓣 .C #walk·started) (Started 𝓤 H A mem run)
     → Meets 𝓤 H A f.signature (WpFn 𝓤 H (𝓣 .C) (𝓣 .Λ) code.function) (f.spec 𝓤 H A mem run)
 begin-meets 𝓤 H A W mem run 𝓣 known =
     walk-meets 𝓤 H A f.ended stayed W (goes-none 𝓤 H A W 1 (λ _. S.the-row) yes (λ κs x f. refl), (goes-none-slice 𝓤 H A W 1 (0 ∷ []) tt (plain (λ _. u8)) yes, tt)) (f.clauses 𝓤 H A mem run)
     (WpFn 𝓤 H (𝓣 .C) (𝓣 .Λ) code.function) (WpFn-mono 𝓤 H (W .laws) 𝓣 code.function) (begin-walks 𝓤 H A W mem run (𝓣 .C) (𝓣 .Λ) (fmOf 𝓤 H (W .laws) 𝓣) known)
 
+-- the theorem, over the crate's own routines
 pub begin-spec : {M : Type 1} → stated.statement M
 unfolding code.routine tablesOf
 begin-spec 𝓤 H 𝓜 𝓖 𝓡 =

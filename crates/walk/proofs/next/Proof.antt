@@ -1,7 +1,6 @@
 -- `walk::next` meets its contract: a walk of its MIR, by hand. The view is taken apart, `reach` is called, and what it returned is put into a step: what is handed out, beside a view made anew of the slice, the place after and the count.
 -- The view is Copy: what it owns is had three times, for the callee, for v at exit and, with the new place in that of the old, inside the result. All that the proof knows of `reach` is that it meets its contract. Assumes nothing.
 use mathlib.Core.Path.{_≡_, refl, ap}
-use Prim.Native.Nat.{ℕ}
 use mathlib.Core.List.{[], _∷_}
 use lib.Dec.{T as Holds}
 use lib.ListN.{length, take, drop as without}
@@ -49,6 +48,7 @@ use Rattle.walk.specs.Steps.{reached}
 use Rattle.walk.specs.declared.View.{View}
 use Rattle.walk.specs.declared.Step.{Step}
 use Rattle.walk.specs.declared.Reached.{Reached}
+use Rattle.walk.proofs.Ahead.{moved}
 use Rattle.walk.proofs.View as T
 use Rattle.walk.proofs.View.Laws as T′
 use Rattle.walk.proofs.Step as Z
@@ -70,21 +70,17 @@ use Rattle.walk.proofs.next.Code as code
 abbrev B : Lfts 1 → RattleType
 B κs = T.the-row (namedLft 1 0 tt κs)
 
--- nothing is said of v at exit: a view is Copy
+-- nothing is said of the parameter at exit: it is Copy
 abbrev stayed : Stays (f.ended .signature .params) (f.ended .kept)
 stayed = (stay-none B yes, tt)
 
--- the contract that the proof cites
+-- the contract of `reach`
 abbrev Reach : {M : Type 1} (𝓤 : URA M) (H : Heap 𝓤) (A : Atoms 𝓤) (mem : Memory → SProp 𝓤) (run : Routine → Fun 𝓤) → Contract 𝓤
 Reach 𝓤 H A mem run = tripleOf 𝓤 H A reach.signature (reach.spec 𝓤 H A mem run)
 
 -- what `reach` returns at a view's fields
 abbrev found : View → Reached
 found d = reached (without (d .next) (take (d .count) (view (now (d .memory))))) (d .next)
-
--- the view at another place
-abbrev moved : View → ℕ → View
-moved d m = record { memory = d .memory; next = m; count = d .count }
 
 -- the step that is made of what `reach` returned
 abbrev made : View → Reached → Step

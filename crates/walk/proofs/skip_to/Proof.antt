@@ -1,7 +1,6 @@
 -- `walk::skip_to` meets its contract: a walk of its MIR, by hand. A view is made anew of the slice and the count that the one passed holds, and another number.
--- The struct is Copy: what it owns is had twice, one copy is kept whole for the exit, and the other, with the facts of the number in the place of next's, is what the result owns.
--- Assumes nothing.
-use mathlib.Core.Path.{_≡_, refl}
+-- The view is Copy: what it owns is had twice, one copy is kept whole for the exit, and the other, with the facts of the number in the place of next's, is what the result owns. Assumes nothing.
+use mathlib.Core.Path.{refl}
 use Prim.Native.Nat.{ℕ, _<_, _^_}
 use mathlib.Core.List.{[], _∷_}
 use lib.Dec.{T as Holds}
@@ -36,7 +35,7 @@ use denote.Triple.Table.{entered}
 use denote.Triple.Walked.{says, Stays, stay-none, walkOf, goes-none, Walks, ends-at, walked, walk-meets}
 use denote.Exit.{yes}
 use Rattle.walk.specs.declared.View.{View}
-use Rattle.walk.specs.Walk.{placed}
+use Rattle.walk.proofs.Ahead.{moved, moved-placed}
 use Rattle.walk.proofs.View as T
 use Rattle.walk.proofs.View.Laws as T′
 use Rattle.walk.proofs.skip_to.Key.{name as #walk·skip-to}
@@ -44,33 +43,24 @@ use Rattle.walk.proofs.skip_to as f
 use Rattle.walk.proofs.skip_to.Statement as stated
 use Rattle.walk.proofs.skip_to.Code as code
 
--- the struct's type, over the signature's lifetimes
+-- the view's type, over the signature's lifetimes
 abbrev B : Lfts 1 → RattleType
 B κs = T.the-row (namedLft 1 0 tt κs)
 
--- what is had of the parameters at exit: nothing is given up
+-- nothing is said of a parameter at exit: each is Copy
 abbrev stayed : Stays (f.ended .signature .params) (f.ended .kept)
 stayed = (stay-none B yes, (stay-none (λ _. u32) yes, tt))
 
--- the view with another number
-abbrev moved : View → ℕ → View
-moved d n = record { memory = d .memory; next = n; count = d .count }
-
--- that is the one promised
-is-placed : (d : View) (n : ℕ) → moved d n ≡ placed d n
-unfolding placed
-is-placed d n = refl
-
 module _ {M : Type 1} (𝓤 : URA M) (H : Heap 𝓤) (A : Atoms 𝓤) (W : Given 𝓤 H A) (mem : Memory → SProp 𝓤) (run : Routine → Fun 𝓤) (κ : Lft) (q : Share) (d : View) (n : ℕ) (ok : n < 2 ^ 32) where
-  -- 'a of the signature
+  -- the signature's lifetime
   abbrev α : NamedLft
   α = namedLft 1 0 tt (κ, tt)
 
-  -- the view's machine value
+  -- the machine value of v
   abbrev mach : Val
   mach = T′.lowered d
 
-  -- what is passed
+  -- the parameters' machine values
   abbrev at : Vals f.signature (κ, tt)
   at = (mach ∷ [], (vint w32 n ∷ [], tt))
 
@@ -78,7 +68,7 @@ module _ {M : Type 1} (𝓤 : URA M) (H : Heap 𝓤) (A : Atoms 𝓤) (W : Given
   abbrev Post : Val → SProp 𝓤
   Post = walkOf 𝓤 H A f.ended stayed (f.clauses 𝓤 H A mem run) .post (((κ, tt), (q, tt), tt, (d, (n, tt)), at), tt)
 
-  -- what the view owns
+  -- what v owns
   abbrev Own : Fml
   Own = B (κ, tt) .own d (mach ∷ [])
 
@@ -86,13 +76,13 @@ module _ {M : Type 1} (𝓤 : URA M) (H : Heap 𝓤) (A : Atoms 𝓤) (W : Given
   exits : ent 𝓤 (onEntry 𝓤 H A f.signature (κ, tt) (q, tt) (d, (n, tt)) at) (Post (T′.lowered (moved d n)))
   exits =
       qed W ((‵ (flft κ q) ⊛ ‵ ftrue) ∷ ‵ (owns (B (κ, tt) ∷ u32 ∷ []) (d, (n, tt)) at) ∷ []) ∵
-      suffices ! _ (ends-at 𝓤 H A f.ended stayed (f.clauses 𝓤 H A mem run) W (((κ, tt), (q, tt), tt, (d, (n, tt)), at), tt) (T′.lowered (moved d n)) (moved d n) (tt, (tt, tt)) (tt, (tt, tt))) $ says ! (is-placed d n) $
+      suffices ! _ (ends-at 𝓤 H A f.ended stayed (f.clauses 𝓤 H A mem run) W (((κ, tt), (q, tt), tt, (d, (n, tt)), at), tt) (T′.lowered (moved d n)) (moved d n) (tt, (tt, tt)) (tt, (tt, tt))) $ says ! (moved-placed d n) $
       frame ! $ fsplit ! $ use1 W (‵ Own ⊛ ‵ Own) (LL.copy (T.the-type α) (T′.the-copy α) 𝓤 H A W .twice d (mach ∷ [])) $ split ! $ move ! (0 ∷ 2 ∷ []) $ fjoin ! $ frame ! $
-      -- [what the struct owns]: the number's facts take the place of next's
+      -- [what the view owns]: the number's facts take the place of next's
       owned ! u32 (Is u32) (uint-makes 𝓤 H A W w32) n _ (refl, ok) $ move ! (1 ∷ 0 ∷ []) $ by ! (own-put 𝓤 H A W (T.the-type α) (T′.the-laws α) 1 (d .memory, (d .next, (d .count, tt))) n mach)
 
   module _ (C : Calls 𝓤 H) (Λ : Loops 𝓤 H) where
-    -- the body, statement by statement
+    -- the MIR, statement by statement
     walk : Holds (hasTy (T′.mir (named 0)) mach) × WT mach → ent 𝓤 (onEntry 𝓤 H A f.signature (κ, tt) (q, tt) (d, (n, tt)) at) (WpFn 𝓤 H C Λ code.function (mach ∷ vint w32 n ∷ []) Post)
     walk wt =
         qed W ((‵ (flft κ q) ⊛ ‵ ftrue) ∷ ‵ (owns (B (κ, tt) ∷ u32 ∷ []) (d, (n, tt)) at) ∷ []) ∵ enter ! C Λ code.function (mach ∷ vint w32 n ∷ []) _ $
@@ -106,16 +96,19 @@ module _ {M : Type 1} (𝓤 : URA M) (H : Heap 𝓤) (A : Atoms 𝓤) (W : Given
         move ! (8 ∷ 9 ∷ []) $ free1 ! $ move ! (6 ∷ 7 ∷ []) $ free1 ! $ move ! (4 ∷ 5 ∷ []) $ free1 ! $ move ! (2 ∷ 3 ∷ []) $ free1 ! $ free1 ! $ free0 ! $ by ! exits)))))
 
 module _ {M : Type 1} (𝓤 : URA M) (H : Heap 𝓤) (A : Atoms 𝓤) (W : Given 𝓤 H A) (mem : Memory → SProp 𝓤) (run : Routine → Fun 𝓤) where
+  -- the walk at each lifetime, share and argument
   skip-to-walks : (C : Calls 𝓤 H) (Λ : Loops 𝓤 H) → Walks 𝓤 H A f.ended stayed (WpFn 𝓤 H C Λ code.function) (f.clauses 𝓤 H A mem run)
   skip-to-walks C Λ = walked 𝓤 H A f.ended stayed (f.clauses 𝓤 H A mem run) (WpFn 𝓤 H C Λ code.function) (λ κs. (LL.vals (T.the-type (namedLft 1 0 tt κs)) (T′.the-laws (namedLft 1 0 tt κs)), (uint-vals w32, tt))) (λ κs. (LL.tells (T.the-type (namedLft 1 0 tt κs)) (T′.the-laws (namedLft 1 0 tt κs)), (uint-tells w32, tt)))
       (λ κs qs bounds a g are. via 𝓤 _ (fst∗ 𝓤 _ (emp 𝓤)) (walk 𝓤 H A W mem run (κs .0) (qs .0) (a .0) (a .1 .0) (are .1 .0 .1) C Λ (LL.lawful (T.the-type (namedLft 1 0 tt κs)) (T′.the-laws (namedLft 1 0 tt κs)) 𝓤 H A W .typed (a .0) _ (are .0) .0)))
 
+-- the walk, taken to the contract
 skip-to-meets : {M : Type 1} (𝓤 : URA M) (H : Heap 𝓤) (A : Atoms 𝓤) → Given 𝓤 H A → (mem : Memory → SProp 𝓤) (run : Routine → Fun 𝓤) (𝓣 : Tables 𝓤 H)
     → Meets 𝓤 H A f.signature (WpFn 𝓤 H (𝓣 .C) (𝓣 .Λ) code.function) (f.spec 𝓤 H A mem run)
 skip-to-meets 𝓤 H A W mem run 𝓣 =
     walk-meets 𝓤 H A f.ended stayed W (goes-none 𝓤 H A W 1 B yes (λ κs x f. refl), (goes-none 𝓤 H A W 1 (λ _. u32) yes (λ κs x f. refl), tt)) (f.clauses 𝓤 H A mem run)
     (WpFn 𝓤 H (𝓣 .C) (𝓣 .Λ) code.function) (WpFn-mono 𝓤 H (W .laws) 𝓣 code.function) (skip-to-walks 𝓤 H A W mem run (𝓣 .C) (𝓣 .Λ))
 
+-- the theorem, over the crate's own routines
 pub skip-to-spec : {M : Type 1} → stated.statement M
 unfolding code.routine tablesOf
 skip-to-spec 𝓤 H 𝓜 𝓖 𝓡 =

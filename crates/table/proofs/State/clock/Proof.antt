@@ -1,20 +1,31 @@
 -- `table::State::clock` meets its contract: what it is refused for, and else what a sweep leaves. Assumes nothing.
 use native.Mathlib.Omega.{arith}
 use mathlib.Core.Path.{_≡_, refl, sym, _∙_}
-use mathlib.Core.Bool.{true, false}
+use mathlib.Core.Bool.{true, not}
 use denote.Ref.{now}
-use mathlib.Core.Bool.{not}
 use borrow.Author.Tests.{lt-ltb, le-ltb}
-use Rattle.record.specs.declared.Rec.{Rec}
-use Rattle.sound.specs.Sound.{sound, lasts}
-use Rattle.sound.proofs.Sound.{held}
-use Rattle.table.specs.Table.{clock}
-use Rattle.table.specs.Memory.{channel, refusal, read}
-use Rattle.table.specs.Steps.{stays}
-use Rattle.table.proofs.Calls.{refusal-unsound, refusal-sound, refused-gives, sweep-gives}
 use borrow.Author.Needs.{needs}
+use Rattle.record.specs.declared.Rec.{Rec}
+use Rattle.sound.specs.Sound.{Channel, sound, lasts}
+use Rattle.table.specs.Table.{Call, clock}
+use Rattle.table.specs.Memory.{channel, read}
+use Rattle.table.specs.Steps.{stays}
+use Rattle.table.proofs.Calls.{unsound-gives, tested-gives, sweep-gives}
 use Rattle.table.proofs.State.clock.Statement.{statement}
 use Rattle.table.proofs.State.clock.Tie as tie
+
+-- ---- what is known at a place
+
+abbrev given : tie.After-is-sound → Channel
+given c = channel (c .before .before .before .args .self) (now (c .before .before .before .args .memory))
+
+abbrev call : tie.After-is-sound → Call
+call c = clock (c .before .before .before .args .slot)
+
+is-sound : (c : tie.Then1) → sound (given (c .before)) ≡ true
+is-sound c = sym (c .before .is-sound .ensures) ∙ c .if1 .taken
+
+-- ---- the needs
 
 is-sound-requires : tie.Need-is-sound-requires
 is-sound-requires c κs = search needs
@@ -28,11 +39,8 @@ same-length c = search needs
 returns : tie.Need-returns
 unfolding read
 returns c =
-    let at-is-sound = c .before .before .before .before in
-    let s = at-is-sound .before .before .before .args in
-    let M = channel (s .self) (now (s .memory)) in
-    let h : sound M ≡ true = sym (at-is-sound .is-sound .ensures) ∙ c .before .before .before .if1 .taken in
-    let g = refused-gives M (clock (s .slot)) 12 (sym (refusal-sound M (clock (s .slot)) h ∙ rw (lt-ltb _ _ (c .before .if2 .taken)))) (omega arith) in
+    let t = c .before .before .before in
+    let g = tested-gives (given (t .before)) (call (t .before)) (is-sound t) 12 (rw (lt-ltb _ _ (c .before .if2 .taken))) (omega arith) in
     (c .refuse .ensures ∙ g .0, g .1)
 
 refuse-requires-2 : tie.Need-refuse-requires-2
@@ -44,22 +52,12 @@ same-length-2 c = search needs
 returns-2 : tie.Need-returns-2
 unfolding read
 returns-2 c =
-    let at-if1 = c .before .before .before .before in
-    let at-is-sound = at-if1 .before in
-    let s = at-is-sound .before .before .before .args in
-    let M = channel (s .self) (now (s .memory)) in
-    let h : sound M ≡ true = sym (at-is-sound .is-sound .ensures) ∙ at-if1 .if1 .taken in
-    let g = refused-gives M (clock (s .slot)) 13 (sym (refusal-sound M (clock (s .slot)) h ∙ rw (le-ltb _ _ (c .before .before .if2 .left), lt-ltb _ _ (c .before .if3 .taken)))) (omega arith) in
+    let t = c .before .before .before .before in
+    let g = tested-gives (given (t .before)) (call (t .before)) (is-sound t) 13 (rw (le-ltb _ _ (c .before .before .if2 .left), lt-ltb _ _ (c .before .if3 .taken))) (omega arith) in
     (c .refuse2 .ensures ∙ g .0, g .1)
 
 sweep-requires : tie.Need-sweep-requires
-sweep-requires c κs =
-    let at-if1 = c .before .before .before .before in
-    let at-is-sound = at-if1 .before in
-    let s = at-is-sound .before .before .before .args in
-    let M = channel (s .self) (now (s .memory)) in
-    let h : sound M ≡ true = sym (at-is-sound .is-sound .ensures) ∙ at-if1 .if1 .taken in
-    h
+sweep-requires c κs = is-sound (c .before .before .before .before)
 
 same-length-3 : tie.Need-same-length-3
 same-length-3 c = search needs
@@ -69,15 +67,12 @@ unfolding read stays
 returns-3 c =
     let at-if3 = c .before .before .before .before in
     let at-if2 = at-if3 .before in
-    let at-if1 = at-if2 .before .before in
-    let at-is-sound = at-if1 .before in
-    let s = at-is-sound .before .before .before .args in
-    let M = channel (s .self) (now (s .memory)) in
-    let h : sound M ≡ true = sym (at-is-sound .is-sound .ensures) ∙ at-if1 .if1 .taken in
-    let z : 0 ≡ refusal M (clock (s .slot)) = sym (refusal-sound M (clock (s .slot)) h ∙ rw (le-ltb _ _ (at-if2 .if2 .left), le-ltb _ _ (at-if3 .if3 .left))) in
-    let live = lasts (M .m1) (s .slot) in
-    let g = sweep-gives M (held M h) (clock (s .slot)) z refl (s .slot) live (λ (r : Rec). not (live r)) (λ r. refl) refl refl in
-    (c .before .before .sweep .ensures .0 ∙ g .0, c .before .before .sweep .ensures .1 ∙ g .1)
+    let t = at-if2 .before .before in
+    let slot = t .before .before .before .before .args .slot in
+    let live = lasts (given (t .before) .m1) slot in
+    let sweep = c .before .before .sweep in
+    let g = sweep-gives (given (t .before)) (call (t .before)) (is-sound t) (rw (le-ltb _ _ (at-if2 .if2 .left), le-ltb _ _ (at-if3 .if3 .left))) refl slot live (λ (r : Rec). not (live r)) (λ r. refl) refl refl in
+    (sweep .ensures .0 ∙ g .0, sweep .ensures .1 ∙ g .1)
 
 refuse-requires-3 : tie.Need-refuse-requires-3
 refuse-requires-3 c κs = search needs
@@ -87,10 +82,8 @@ same-length-4 c = search needs
 
 returns-4 : tie.Need-returns-4
 returns-4 c =
-    let s = c .before .before .before .before .before .args in
-    let M = channel (s .self) (now (s .memory)) in
-    let h : sound M ≡ false = sym (c .before .before .is-sound .ensures) ∙ c .before .if1 .left in
-    let g = refused-gives M (clock (s .slot)) 11 (refusal-unsound M (clock (s .slot)) h) (omega arith) in
+    let a = c .before .before in
+    let g = unsound-gives (given a) (call a) (sym (a .is-sound .ensures) ∙ c .before .if1 .left) in
     (c .refuse3 .ensures ∙ g .0, g .1)
 
 pub clock-spec : {M : Type 1} → statement M

@@ -6,12 +6,12 @@ use mathlib.Core.Path.{_≡_, sym, _∙_}
 use mathlib.Core.Bool.{true, false}
 use denote.Ref.{now}
 use lib.ListN.{length}
+use borrow.Author.Needs.{needs}
 use Rattle.octets.specs.Refusals.{answer}
 use Rattle.codec.specs.Parameters as Parameters
 use Rattle.record.specs.Record.{size}
 use Rattle.sound.specs.Sound.{sizeFits}
 use Rattle.table.specs.Memory.{openRefusal, openLeaves, openReturned}
-use borrow.Author.Needs.{needs}
 use Rattle.table.proofs.State.open.Statement.{statement}
 use Rattle.table.proofs.State.open.Tie as tie
 

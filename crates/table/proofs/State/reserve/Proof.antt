@@ -1,17 +1,39 @@
 -- `table::State::reserve` meets its contract: what its numbers are refused for, and else what `add` answers. Assumes nothing.
 use native.Mathlib.Omega.{arith}
 use mathlib.Core.Path.{_≡_, sym, _∙_}
-use mathlib.Core.Bool.{true, false}
+use mathlib.Core.Bool.{true}
 use denote.Ref.{now}
+use borrow.Author.Needs.{needs}
 use Rattle.octets.specs.Refusals.{firstOf}
-use Rattle.sound.specs.Sound.{sound}
+use Rattle.sound.specs.Sound.{Channel, sound}
 use Rattle.sound.proofs.Sound.{held}
+use Rattle.table.specs.declared.Request.{Request}
 use Rattle.table.specs.Table.{reserve, requestTests}
 use Rattle.table.specs.Memory.{channel}
-use Rattle.table.proofs.Calls.{refusal-unsound, refused-gives, request-passed, request-refused, request-added}
-use borrow.Author.Needs.{needs}
+use Rattle.table.proofs.Calls.{InRange, unsound-gives, request-passed, request-refused, request-added}
 use Rattle.table.proofs.State.reserve.Statement.{statement}
 use Rattle.table.proofs.State.reserve.Tie as tie
+
+-- ---- what is known at a place
+
+abbrev given : tie.After-is-sound → Channel
+given c = channel (c .before .before .before .args .self) (now (c .before .before .before .args .memory))
+
+abbrev request : tie.After-is-sound → Request
+request c = c .before .before .before .args .q
+
+is-sound : (c : tie.Then1) → sound (given (c .before)) ≡ true
+is-sound c = sym (c .before .is-sound .ensures) ∙ c .if1 .taken
+
+module _ (c : tie.Then2) where
+  -- no number of the request is refused
+  is-passed : firstOf (requestTests (request (c .before .before .before))) ≡ 0
+  is-passed = sym (c .before .judge-request .ensures) ∙ c .if2 .taken
+
+  in-range : InRange (request (c .before .before .before))
+  in-range = request-passed (request (c .before .before .before)) is-passed
+
+-- ---- the needs
 
 is-sound-requires : tie.Need-is-sound-requires
 is-sound-requires c κs = search needs
@@ -24,51 +46,21 @@ far-bit-requires c κs = search needs
 
 add-t12 : tie.Need-add-t12
 add-t12 c =
-    let at-judge-request = c .before .before .before .before in
-    let at-if1 = at-judge-request .before in
-    let at-is-sound = at-if1 .before in
-    let s = at-is-sound .before .before .before .args in
-    let M = channel (s .self) (now (s .memory)) in
-    let h : sound M ≡ true = sym (at-is-sound .is-sound .ensures) ∙ at-if1 .if1 .taken in
-    let q = s .q in
-    let z : firstOf (requestTests q) ≡ 0 = sym (at-judge-request .judge-request .ensures) ∙ c .before .before .before .if2 .taken in
-    omega (arith, request-passed q z .bs-most, held M h .now-most)
+    let at-if2 = c .before .before .before in
+    let t = at-if2 .before .before in
+    omega (arith, in-range at-if2 .bs-most, held (given (t .before)) (is-sound t) .now-most)
 
 cast-t13 : tie.Need-cast-t13
-cast-t13 c =
-    let at-if2 = c .before .before .before .before in
-    let at-judge-request = at-if2 .before in
-    let s = at-judge-request .before .before .before .before .before .args in
-    let q = s .q in
-    let z : firstOf (requestTests q) ≡ 0 = sym (at-judge-request .judge-request .ensures) ∙ at-if2 .if2 .taken in
-    omega (arith, request-passed q z .rate-most)
+cast-t13 c = omega (arith, in-range (c .before .before .before .before) .rate-most)
 
 cast-t14 : tie.Need-cast-t14
-cast-t14 c =
-    let at-if2 = c .before .before .before .before .before in
-    let at-judge-request = at-if2 .before in
-    let s = at-judge-request .before .before .before .before .before .args in
-    let q = s .q in
-    let z : firstOf (requestTests q) ≡ 0 = sym (at-judge-request .judge-request .ensures) ∙ at-if2 .if2 .taken in
-    omega (arith, request-passed q z .superframes-most)
+cast-t14 c = omega (arith, in-range (c .before .before .before .before .before) .superframes-most)
 
 cast-t15 : tie.Need-cast-t15
-cast-t15 c =
-    let at-if2 = c .before .before .before .before .before .before in
-    let at-judge-request = at-if2 .before in
-    let s = at-judge-request .before .before .before .before .before .args in
-    let q = s .q in
-    let z : firstOf (requestTests q) ≡ 0 = sym (at-judge-request .judge-request .ensures) ∙ at-if2 .if2 .taken in
-    omega (arith, request-passed q z .length-most)
+cast-t15 c = omega (arith, in-range (c .before .before .before .before .before .before) .length-most)
 
 add-requires : tie.Need-add-requires
-add-requires c κs =
-    let at-if1 = c .before .before .before .before .before .before .before .before .before in
-    let at-is-sound = at-if1 .before in
-    let s = at-is-sound .before .before .before .args in
-    let M = channel (s .self) (now (s .memory)) in
-    let h : sound M ≡ true = sym (at-is-sound .is-sound .ensures) ∙ at-if1 .if1 .taken in
-    h
+add-requires c κs = is-sound (c .before .before .before .before .before .before .before .before .before)
 
 same-length : tie.Need-same-length
 same-length c = search needs
@@ -77,17 +69,11 @@ returns : tie.Need-returns
 returns c =
     let at-far-bit = c .before .before .before .before .before .before .before .before .before in
     let at-if2 = at-far-bit .before in
-    let at-judge-request = at-if2 .before in
-    let at-if1 = at-judge-request .before in
-    let at-is-sound = at-if1 .before in
-    let s = at-is-sound .before .before .before .args in
-    let M = channel (s .self) (now (s .memory)) in
-    let h : sound M ≡ true = sym (at-is-sound .is-sound .ensures) ∙ at-if1 .if1 .taken in
-    let q = s .q in
-    let z : firstOf (requestTests q) ≡ 0 = sym (at-judge-request .judge-request .ensures) ∙ at-if2 .if2 .taken in
+    let t = at-if2 .before .before in
     let far = at-far-bit .far-bit .ensures in
-    let g = request-added M q h z in
-    (c .before .before .add .ensures .0 ∙ rw far (g .0), c .before .before .add .ensures .1 ∙ rw far (g .1))
+    let add = c .before .before .add in
+    let g = request-added (given (t .before)) (request (t .before)) (is-sound t) (is-passed at-if2) in
+    (add .ensures .0 ∙ rw far (g .0), add .ensures .1 ∙ rw far (g .1))
 
 refuse-requires : tie.Need-refuse-requires
 refuse-requires c κs = search needs
@@ -97,13 +83,9 @@ same-length-2 c = search needs
 
 returns-2 : tie.Need-returns-2
 returns-2 c =
-    let at-is-sound = c .before .before .before .before in
-    let s = at-is-sound .before .before .before .args in
-    let M = channel (s .self) (now (s .memory)) in
-    let h : sound M ≡ true = sym (at-is-sound .is-sound .ensures) ∙ c .before .before .before .if1 .taken in
+    let t = c .before .before .before in
     let e = c .before .before .judge-request .ensures in
-    let z : firstOf (requestTests (s .q)) ≡ 0 → ⊥ = λ w. c .before .if2 .left (e ∙ w) in
-    let g = refused-gives M (reserve (s .q)) (firstOf (requestTests (s .q))) (request-refused M (s .q) h z) z in
+    let g = request-refused (given (t .before)) (request (t .before)) (is-sound t) (λ z. c .before .if2 .left (e ∙ z)) in
     (c .refuse .ensures ∙ rw e (g .0), g .1)
 
 refuse-requires-2 : tie.Need-refuse-requires-2
@@ -114,10 +96,8 @@ same-length-3 c = search needs
 
 returns-3 : tie.Need-returns-3
 returns-3 c =
-    let s = c .before .before .before .before .before .args in
-    let M = channel (s .self) (now (s .memory)) in
-    let h : sound M ≡ false = sym (c .before .before .is-sound .ensures) ∙ c .before .if1 .left in
-    let g = refused-gives M (reserve (s .q)) 11 (refusal-unsound M (reserve (s .q)) h) (omega arith) in
+    let a = c .before .before in
+    let g = unsound-gives (given a) (reserve (request a)) (sym (a .is-sound .ensures) ∙ c .before .if1 .left) in
     (c .refuse2 .ensures ∙ g .0, g .1)
 
 pub reserve-spec : {M : Type 1} → statement M
