@@ -10,7 +10,7 @@ use lib.IntN.{ℤ, pos, negsuc, natAbs, _+ℤ_}
 use lib.Signed.{ltZ, nonNeg}
 use lib.Dec.{T, ltb, eqb}
 use borrow.Author.Tests.{ltb-true, ltb-false, lt-ltb, le-ltb, eqb-true, eqb-false, ne-eqb}
-use Rattle.octets.proofs.Refusals.{or-false}
+use Rattle.octets.proofs.Refusals.{or-eq-false}
 use Rattle.codec.specs.NineOctets.{badOffset, twosOf, signedOf}
 
 -- ---- an offset that is not bad
@@ -18,7 +18,7 @@ use Rattle.codec.specs.NineOctets.{badOffset, twosOf, signedOf}
 -- what is not outside -127..127 has a size of at most 127
 pub offset-small : (z : ℤ) → badOffset z ≡ false → natAbs z ≤ 127
 offset-small (pos n) h = ltb-false 127 n h
-offset-small (negsuc n) h = omega (arith, ltb-false 126 n (or-false (ltb 126 n) false h .0))
+offset-small (negsuc n) h = omega (arith, ltb-false 126 n (or-eq-false (ltb 126 n) false h .0))
 
 -- ---- there and back
 

@@ -9,7 +9,7 @@ use lib.Dec.{eqb}
 use lib.ListN.{length, getD}
 use Rattle.octets.specs.Lists.{every}
 use Rattle.octets.specs.Refusals.{firstOf}
-use Rattle.octets.proofs.Refusals.{answer-refused, answer-accepted, by-test, or-false}
+use Rattle.octets.proofs.Refusals.{answer-refused, answer-accepted, by-test, or-eq-false}
 use Rattle.codec.specs.NineOctets.{badCode}
 use Rattle.codec.specs.Rates.{badList, rateTests, rateFound}
 
@@ -19,10 +19,10 @@ use Rattle.codec.specs.Rates.{badList, rateTests, rateFound}
 pub badList-false : (rates : List ℕ) → badList rates ≡ false → (length rates ≡ 16) × (getD rates 7 0 ≡ 0) × (getD rates 14 0 ≡ 0) × (getD rates 15 0 ≡ 0)
 unfolding badList
 badList-false rates h =
-    let p15 = or-false _ _ h in
-    let p14 = or-false _ _ (p15 .0) in
-    let p7 = or-false _ _ (p14 .0) in
-    let p16 = or-false _ _ (p7 .0) in
+    let p15 = or-eq-false _ _ h in
+    let p14 = or-eq-false _ _ (p15 .0) in
+    let p7 = or-eq-false _ _ (p14 .0) in
+    let p16 = or-eq-false _ _ (p7 .0) in
     (same _ _ (p16 .0), same _ _ (p7 .1), same _ _ (p14 .1), same _ _ (p15 .1))
   where
     same : (a b : ℕ) → not (eqb a b) ≡ false → a ≡ b

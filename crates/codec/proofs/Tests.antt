@@ -9,7 +9,7 @@ use lib.Dec.{eqb, leb, ltb}
 use lib.ListN.{length}
 use Rattle.octets.specs.Octets.{AreOctets}
 use Rattle.octets.specs.Refusals.{firstOf, outside}
-use Rattle.octets.proofs.Refusals.{firstOf-cons, firstOf-zero, firstOf-most, answer-accepted, answer-says, or-false, outside-false}
+use Rattle.octets.proofs.Refusals.{firstOf-cons, firstOf-zero, firstOf-most, answer-accepted, answer-says, or-eq-false, outside-false}
 use Rattle.codec.specs.declared.Block.{Block}
 use Rattle.codec.specs.declared.Reading.{Reading}
 use Rattle.codec.specs.declared.Writing.{Writing}
@@ -99,12 +99,12 @@ write-passed b h =
     let p8 = firstOf-cons (8, leb (2 ^ 27) (b .d)) (nine ∷ fieldTests b) refl h in
     let p9 = firstOf-cons nine (fieldTests b) (p8 .1) (p8 .2) in
     let f = firstOf-zero (fieldTests b) refl (p9 .2) in
-    let blg-bt = or-false (ltb 31 (b .blg)) (ltb 3 (b .bt)) (p9 .0) in (
+    let blg-bt = or-eq-false (ltb 31 (b .blg)) (ltb 3 (b .bt)) (p9 .0) in (
       record {
         d-low = leb-false (2 ^ 27) (b .d) (p8 .0);
         blg-low = ltb-false 31 (b .blg) (blg-bt .0);
         roff-low = outside-false 2 255 (b .roff) (f .1 .0) .1;
-        br-low = omega (arith, leb-false 14 (b .br) (or-false (eqb (b .br) 7) (leb 14 (b .br)) (f .0) .1));
+        br-low = omega (arith, leb-false 14 (b .br) (or-eq-false (eqb (b .br) 7) (leb 14 (b .br)) (f .0) .1));
         bs-low = outside-false 2 255 (b .bs) (f .1 .1 .0) .1;
         bo-in = f .1 .1 .1 .0;
         bt-low = ltb-false 3 (b .bt) (blg-bt .1);

@@ -1,5 +1,5 @@
 -- The state that a host forms from an answer over C, and how it tells a refusal. Assumes nothing.
-use Prim.Native.Nat.{ℕ, zero, suc, _+_, _-_, _≤_, zero-le}
+use Prim.Native.Nat.{ℕ, _+_, _-_, _≤_, zero-le}
 use native.Mathlib.Omega.{arith}
 use mathlib.Core.Path.{_≡_, refl, sym, ap, _∙_}
 use mathlib.Core.Bool.{Bool, true, false, cond, not, true≢false}
@@ -10,7 +10,7 @@ use borrow.Author.Tests.{le-leb, lt-leb}
 use Rattle.octets.specs.Lists.{keep}
 use Rattle.octets.specs.Refusals.{answer}
 use Rattle.octets.proofs.Lists.{length-keep-not}
-use Rattle.octets.proofs.Refusals.{answer-elim, answer-refused, answer-accepted, by-test}
+use Rattle.octets.proofs.Refusals.{by-refusal, answer-elim, answer-refused, answer-accepted, by-test}
 use Rattle.record.specs.declared.Rec.{Rec}
 use Rattle.distance.specs.Distances.{isFar}
 use Rattle.sound.specs.Sound.{Channel, records, lasts, sound}
@@ -27,11 +27,6 @@ use Rattle.gemthatch.specs.Claims.{moved, formed, StateFormed, StateOpen
 use Rattle.gemthatch.proofs.Most.{returned-called}
 
 -- ---- overC
-
--- both ways to go on from a refusal
-by-refusal : {X : Type 0} (n : ℕ) → (n ≡ 0 → X) → ((n ≡ 0 → ⊥) → X) → X
-by-refusal zero f g = f refl
-by-refusal (suc n) f g = g (omega arith)
 
 -- an accepted number stands as it is
 overC-accepted : (number : ℕ) → overC 0 number ≡ number

@@ -130,15 +130,20 @@ pub by-test : {X : Type 0} (b : Bool) → (b ≡ true → X) → (b ≡ false �
 by-test true f g = f refl
 by-test false f g = g refl
 
+-- both ways to go on from a refusal
+pub by-refusal : {X : Type 0} (n : ℕ) → (n ≡ 0 → X) → ((n ≡ 0 → ⊥) → X) → X
+by-refusal zero f g = f refl
+by-refusal (suc n) f g = g (omega arith)
+
 -- neither holds where not one of them does
-pub or-false : (a b : Bool) → (a || b) ≡ false → (a ≡ false) × (b ≡ false)
-or-false true b h = absurd (true≢false h)
-or-false false b h = (refl, h)
+pub or-eq-false : (a b : Bool) → (a || b) ≡ false → (a ≡ false) × (b ≡ false)
+or-eq-false true b h = absurd (true≢false h)
+or-eq-false false b h = (refl, h)
 
 -- what is not outside a range lies in it
 pub outside-false : (lo hi n : ℕ) → outside lo hi n ≡ false → (lo ≤ n) × (n ≤ hi)
 outside-false lo hi n h =
-    let p = or-false (ltb n lo) (ltb hi n) h in
+    let p = or-eq-false (ltb n lo) (ltb hi n) h in
     (ltb-false n lo (p .0), ltb-false hi n (p .1))
 
 -- and so does what is within it

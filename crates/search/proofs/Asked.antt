@@ -10,7 +10,7 @@ use lib.Seq.{take-all}
 use borrow.Author.Tests.{ltb-false, eq-eqb, ne-eqb}
 use Rattle.octets.specs.Octets.{holdsOnly}
 use Rattle.octets.specs.Refusals.{firstOf}
-use Rattle.octets.proofs.Refusals.{firstOf-append, firstOf-stop, firstOf-zero, outside-false, or-false, answer-refused, answer-accepted}
+use Rattle.octets.proofs.Refusals.{firstOf-append, firstOf-stop, firstOf-zero, outside-false, or-eq-false, answer-refused, answer-accepted}
 use Rattle.sound.specs.Sound.{Channel, sound}
 use Rattle.table.specs.Memory.{read}
 use Rattle.search.specs.declared.Query.{Query}
@@ -22,9 +22,9 @@ use Rattle.search.proofs.Listed.{listed-none}
 pub well-asked : (m1 now : ℕ) (q : Query) (places : ℕ) → firstOf (queryTests m1 now q places) ≡ 0 → WellAsked q places
 well-asked m1 now q places z =
     let t = firstOf-zero (queryTests m1 now q places) refl z in
-    let range = or-false (ltb (q .lo) now || ltb (q .hi) (q .lo) || ltb 1_000_000_000 (q .hi)) (leb m1 (q .hi - q .lo)) (t .0) in
-    let late = or-false (ltb (q .lo) now || ltb (q .hi) (q .lo)) (ltb 1_000_000_000 (q .hi)) (range .0) in
-    let order = or-false (ltb (q .lo) now) (ltb (q .hi) (q .lo)) (late .0) in
+    let range = or-eq-false (ltb (q .lo) now || ltb (q .hi) (q .lo) || ltb 1_000_000_000 (q .hi)) (leb m1 (q .hi - q .lo)) (t .0) in
+    let late = or-eq-false (ltb (q .lo) now || ltb (q .hi) (q .lo)) (ltb 1_000_000_000 (q .hi)) (range .0) in
+    let order = or-eq-false (ltb (q .lo) now) (ltb (q .hi) (q .lo)) (late .0) in
     let length = outside-false 1 32 (q .length) (t .1 .0) in
     let wanted = outside-false 1 16 (q .wanted) (t .1 .1 .0) in
     record {

@@ -10,7 +10,7 @@ use lib.ListN.{length, length-append}
 use Rattle.octets.specs.Lists.{keep}
 use Rattle.octets.specs.Refusals.{firstOf, outside}
 use Rattle.octets.proofs.Lists.{length-keep-not}
-use Rattle.octets.proofs.Refusals.{firstOf-append, firstOf-stop, firstOf-zero, outside-false, or-false, answer-refused, answer-accepted}
+use Rattle.octets.proofs.Refusals.{firstOf-append, firstOf-stop, firstOf-zero, outside-false, or-eq-false, answer-refused, answer-accepted}
 use Rattle.record.specs.Record.{capacity}
 use Rattle.record.specs.declared.Rec.{Rec}
 use Rattle.sound.specs.Sound.{Channel, records, sound}
@@ -112,7 +112,7 @@ pub record InRange (q : Request) : Type 0 where
 pub request-passed : (q : Request) → firstOf (requestTests q) ≡ 0 → InRange q
 request-passed q z =
     let p = firstOf-zero (requestTests q) refl z in
-    let size = or-false (ltb 3 (q .superframes)) (outside 1 32 (q .length)) (p .1 .1 .1 .0) in
+    let size = or-eq-false (ltb 3 (q .superframes)) (outside 1 32 (q .length)) (p .1 .1 .1 .0) in
     record {
       rate-most = outside-false 1 60 (q .rate) (p .1 .0) .1;
       superframes-most = ltb-false 3 (q .superframes) (size .0);

@@ -11,7 +11,7 @@ use borrow.Author.Tests.{ltb-false, leb-false, eqb-false, lt-ltb, le-ltb, le-leb
 use Rattle.octets.specs.Lists.{keep, every}
 use Rattle.octets.specs.Refusals.{firstOf, answer, outside, within}
 use Rattle.octets.proofs.Lists.{every-keep, every-kept, every-append, every-map, every-sub, every-and, length-keep}
-use Rattle.octets.proofs.Refusals.{firstOf-zero, or-false, outside-false, answer-elim}
+use Rattle.octets.proofs.Refusals.{firstOf-zero, or-eq-false, outside-false, answer-elim}
 use Rattle.codec.specs.Parameters as Parameters
 use Rattle.distance.specs.Distances.{isFar}
 use Rattle.record.specs.declared.Rec.{Rec}
@@ -80,7 +80,7 @@ asked-good : (t : Table) (q : Request) → Sound t → refusalOn t (reserve q) �
 unfolding inRange lasts lastSlot
 asked-good t q k h =
     let p = firstOf-zero (tests t (reserve q)) refl h in
-    let nine = or-false (ltb 3 (q .superframes)) (outside 1 32 (q .length)) (p .1 .1 .1 .0) in
+    let nine = or-eq-false (ltb 3 (q .superframes)) (outside 1 32 (q .length)) (p .1 .1 .1 .0) in
     let five = outside-false 2 255 (q .bs) (p .1 .1 .1 .1 .0) in
     let some = eqb-false (q .superframes) 0 (p .1 .1 .0) in
     let long = outside-false 1 32 (q .length) (nine .1) in
