@@ -1,12 +1,13 @@
 -- A walk hands out the records of a sound table, in order, and then no more; and nothing of any other. Assumes nothing.
 use Prim.Native.Nat.{ℕ, zero, suc, _+_}
 use native.Mathlib.Nat.{zero-add, suc-add}
-use mathlib.Core.Path.{_≡_, refl, sym, ap}
+use mathlib.Core.Path.{_≡_, refl, sym, ap, _∙_}
 use mathlib.Core.Bool.{true, false}
-use mathlib.Core.List.{List, [], _∷_, _++_}
-use lib.ListN.{length as len, replicate}
-use lib.Seq.{drop-nil}
+use mathlib.Core.List.{List, [], _∷_, _++_, map}
+use lib.ListN.{length as len, drop, replicate}
+use lib.Seq.{drop-nil, drop-drop}
 use denote.Ref.{RefT, now}
+use Rattle.octets.specs.Lists.{from}
 use Rattle.octets.specs.Refusals.{answer}
 use Rattle.octets.proofs.Refusals.{by-test}
 use Rattle.record.specs.declared.Rec.{Rec}
@@ -15,9 +16,10 @@ use Rattle.table.specs.declared.State.{State}
 use Rattle.table.specs.Memory.{channel}
 use Rattle.walk.specs.declared.View.{View}
 use Rattle.walk.specs.declared.Answer.{Answer}
-use Rattle.walk.specs.declared.Handed.the-variants.{NoMore}
+use Rattle.walk.specs.declared.Handed.{Handed}
+use Rattle.walk.specs.declared.Handed.the-variants.{One, NoMore}
 use Rattle.walk.specs.Walk.{begun, ahead, handsOut, placed, stepped, recordAt}
-use Rattle.walk.specs.Claims.{handedOut, each, AllInOrder, NothingUnsound, RecordWalked}
+use Rattle.walk.specs.Claims.{handedOut, AllInOrder, NothingUnsound, RecordWalked, ByNumber}
 use Rattle.walk.proofs.Ahead.{held-sound, held-unsound, stepped-one, stepped-none}
 
 -- with none ahead a view says "no more" for ever
@@ -28,7 +30,7 @@ handed-none (suc n) v e =
     rw (s .0, handed-none n (stepped v .view) (s .1))
 
 -- a view hands out the records ahead of it, and then no more
-handed-ahead : (rs : List Rec) (n : ℕ) (v : View) → ahead v ≡ rs → handedOut (len rs + n) v ≡ each rs ++ replicate n NoMore
+handed-ahead : (rs : List Rec) (n : ℕ) (v : View) → ahead v ≡ rs → handedOut (len rs + n) v ≡ map One rs ++ replicate n NoMore
 handed-ahead [] n v e = rw zero-add (handed-none n v e)
 handed-ahead (r ∷ rs) n v e =
     let s = stepped-one v e in
@@ -57,6 +59,25 @@ module _ (s : State) (memory : RefT (List ℕ)) where
       (λ h. rw (held-sound (channel s (now memory)) h, h))
       (λ h. rw (held-unsound (channel s (now memory)) h, h, drop-nil i))
 
+-- ---- by number
+
+-- what is handed out of these records at each of the n places from i on
+abbrev handedFrom : List Rec → ℕ → ℕ → List Handed
+handedFrom all i n = map (λ k. handsOut (drop k all)) (from i n)
+
+module _ (all : List Rec) where
+  -- from a place on where there is none, no more for ever
+  from-none : (n i : ℕ) → drop i all ≡ [] → handedFrom all i n ≡ replicate n NoMore
+  unfolding handsOut
+  from-none zero i e = refl
+  from-none (suc n) i e = rw (e, from-none n (i + 1) (sym (drop-drop 1 i all) ∙ ap (drop 1) e))
+
+  -- from any place on, the records from there on, and then no more
+  from-ahead : (rs : List Rec) (n i : ℕ) → drop i all ≡ rs → handedFrom all i (len rs + n) ≡ map One rs ++ replicate n NoMore
+  unfolding handsOut
+  from-ahead [] n i e = rw zero-add (from-none n i e)
+  from-ahead (r ∷ rs) n i e = rw (suc-add, e, from-ahead rs n (i + 1) (sym (drop-drop 1 i all) ∙ ap (drop 1) e))
+
 -- ---- the claims
 
 pub all-in-order : AllInOrder
@@ -73,3 +94,7 @@ nothing-unsound s memory n h =
 
 pub record-walked : RecordWalked
 record-walked s memory i = ap (λ (a : Answer). a .handed) (sym (recordAt-walked s memory i))
+
+pub by-number : ByNumber
+unfolding recordAt answer
+by-number m n h = rw h (from-ahead (records m) (records m) n 0 refl)

@@ -2,11 +2,11 @@
 use Prim.Native.Nat.{ℕ, zero, suc, _+_}
 use mathlib.Core.Path.{_≡_}
 use mathlib.Core.Bool.{true, false}
-use mathlib.Core.List.{List, [], _∷_, _++_}
+use mathlib.Core.List.{List, [], _∷_, _++_, map}
 use lib.ListN.{length as len, replicate}
 use denote.Ref.{RefT, now}
-use Rattle.record.specs.declared.Rec.{Rec}
-use Rattle.sound.specs.Sound.{records, sound}
+use Rattle.octets.specs.Lists.{from}
+use Rattle.sound.specs.Sound.{Channel, records, sound}
 use Rattle.table.specs.declared.State.{State}
 use Rattle.table.specs.Memory.{channel}
 use Rattle.walk.specs.declared.View.{View}
@@ -19,16 +19,11 @@ abbrev pub handedOut : ℕ → View → List Handed
 handedOut zero v = []
 handedOut (suc n) v = stepped v .handed ∷ handedOut n (stepped v .view)
 
--- records, each handed out
-abbrev pub each : List Rec → List Handed
-each [] = []
-each (r ∷ rs) = One r ∷ each rs
-
 -- a walk hands out exactly the records of a sound table, in order, and then "no more" for ever
 abbrev pub AllInOrder : Type 0
 AllInOrder =
     (s : State) (memory : RefT (List ℕ)) (n : ℕ) → sound (channel s (now memory)) ≡ true
-    → (begun s memory .refusal ≡ 0) × (handedOut (len (records (channel s (now memory))) + n) (begun s memory .view) ≡ each (records (channel s (now memory))) ++ replicate n NoMore)
+    → (begun s memory .refusal ≡ 0) × (handedOut (len (records (channel s (now memory))) + n) (begun s memory .view) ≡ map One (records (channel s (now memory))) ++ replicate n NoMore)
 
 -- begun on a table that isn't sound it answers 11 and hands out nothing
 abbrev pub NothingUnsound : Type 0
@@ -40,7 +35,14 @@ NothingUnsound =
 abbrev pub RecordWalked : Type 0
 RecordWalked = (s : State) (memory : RefT (List ℕ)) (i : ℕ) → recordAt (channel s (now memory)) i .handed ≡ stepped (placed (begun s memory .view) i) .handed
 
+-- record_at, asked for 0, 1, 2 and so on, hands out exactly the records of a sound table, in order, and then "no more" for ever
+abbrev pub ByNumber : Type 0
+ByNumber =
+    (m : Channel) (n : ℕ) → sound m ≡ true
+    → map (λ i. recordAt m i .handed) (from 0 (len (records m) + n)) ≡ map One (records m) ++ replicate n NoMore
+
 pub record Claims : Type 0 where
   pub all-in-order : AllInOrder
   pub nothing-unsound : NothingUnsound
   pub record-walked : RecordWalked
+  pub by-number : ByNumber
