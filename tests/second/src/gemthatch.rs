@@ -31,6 +31,7 @@ pub struct Writing {
 
 /// `gemthatch_record`
 #[repr(C)]
+#[derive(Clone, Copy, Debug, Default, PartialEq)]
 pub struct Record {
     pub station: u32,
     pub first: u32,
@@ -42,6 +43,7 @@ pub struct Record {
 
 /// `gemthatch_place`
 #[repr(C)]
+#[derive(Clone, Copy, Debug, Default, PartialEq)]
 pub struct Place {
     pub refusal: u32,
     pub handed: u32,
@@ -50,6 +52,7 @@ pub struct Place {
 
 /// `gemthatch_tally`
 #[repr(C)]
+#[derive(Clone, Copy, PartialEq)]
 pub struct Tally {
     pub accepted: u32,
     pub refused: u32,

@@ -2,7 +2,7 @@
 //! and with the same checks: the peers for the benchmark. Nothing is inlined
 //! into the caller, as nothing of an archive can be.
 
-use crate::gemthatch::{Block, Reading, Writing};
+use crate::gemthatch::{self, Block, Place, Reading, Tally, Writing};
 
 const RECORD: usize = 12;
 const MOST_RECORDS: usize = 2048;
@@ -561,5 +561,49 @@ pub fn search(memory: &[u8], state: State, range: &Range, list: &mut [u8]) -> An
     match (found[0] + found[1]).min(wanted) {
         0 => Err(21),
         number => Ok(number as u32),
+    }
+}
+
+#[inline(never)]
+pub fn pick(n: u32, r: u32) -> Answer {
+    if !(1..=16).contains(&n) {
+        return Err(20);
+    }
+    Ok(r % n)
+}
+
+#[inline(never)]
+pub fn record_at(memory: &[u8], state: State, i: u32) -> Place {
+    if !is_sound(memory, state) {
+        return Place {
+            refusal: 11,
+            ..Place::default()
+        };
+    }
+    if i >= state.count {
+        return Place::default();
+    }
+    let at = i as usize * RECORD;
+    let record = Record::read(&memory[at..at + RECORD]);
+    Place {
+        refusal: 0,
+        handed: 1,
+        record: gemthatch::Record {
+            station: record.station,
+            first: record.first,
+            rate: record.rate as u8,
+            superframes: record.superframes as u8,
+            length: record.length as u8,
+            far: record.far,
+        },
+    }
+}
+
+#[inline(never)]
+pub fn count(tally: &mut Tally, refusal: u32) {
+    if refusal == 0 {
+        tally.accepted = tally.accepted.saturating_add(1);
+    } else {
+        tally.refused = tally.refused.saturating_add(1);
     }
 }

@@ -1,7 +1,7 @@
 //! The calls of the archive, as bare as they are: nothing is added to what is
 //! timed.
 
-use crate::gemthatch::{self, Block, Reading, Writing, REFUSED};
+use crate::gemthatch::{self, Block, Place, Reading, Tally, Writing, REFUSED};
 use crate::plain::{Answer, Distance, Range, State, Wish};
 
 /// An answer of the peer in the archive's form.
@@ -9,7 +9,7 @@ pub fn number(answer: Answer) -> u32 {
     answer.unwrap_or_else(|refusal| REFUSED + refusal)
 }
 
-// Each wrapper lends what it was lent, so the octets are there for the call.
+// Each wrapper lends what it was lent, so it is there for the call.
 
 pub fn read(octets: &[u8]) -> Reading {
     unsafe { gemthatch::gemthatch_read(octets.as_ptr(), octets.len()) }
@@ -106,4 +106,17 @@ pub fn search(memory: &[u8], state: State, range: &Range, list: &mut [u8]) -> u3
             list.len(),
         )
     }
+}
+
+pub fn pick(n: u32, r: u32) -> u32 {
+    unsafe { gemthatch::gemthatch_pick(n, r) }
+}
+
+pub fn record_at(memory: &[u8], state: State, i: u32) -> Place {
+    let State { m1, now, count } = state;
+    unsafe { gemthatch::gemthatch_record_at(memory.as_ptr(), memory.len(), m1, now, count, i) }
+}
+
+pub fn count(tally: &mut Tally, refusal: u32) {
+    unsafe { gemthatch::gemthatch_count(tally, refusal) }
 }

@@ -1,5 +1,6 @@
 //! Each call of the archive beside a peer written by hand, in one run.
 
+use std::fmt::Debug;
 use std::hint::black_box;
 use std::time::{Duration, Instant};
 
@@ -71,28 +72,28 @@ impl Lent {
 }
 
 /// One of the two programs: it gives its answer as the archive does.
-trait Program<A>: Fn(&mut Lent, &Input<A>) -> u32 {}
-impl<A, F: Fn(&mut Lent, &Input<A>) -> u32> Program<A> for F {}
+trait Program<A, R>: Fn(&mut Lent, &Input<A>) -> R {}
+impl<A, R, F: Fn(&mut Lent, &Input<A>) -> R> Program<A, R> for F {}
 
 /// Nanoseconds for a batch of calls on memory restored before.
-fn time_batch<A>(inputs: &[Input<A>], lent: &mut [Lent], program: &impl Program<A>) -> f64 {
+fn time_batch<A, R>(inputs: &[Input<A>], lent: &mut [Lent], program: &impl Program<A, R>) -> f64 {
     for (lent, input) in lent.iter_mut().zip(inputs) {
         lent.restore(input);
     }
     time(|| {
         for (lent, input) in lent.iter_mut().zip(inputs) {
-            black_box(program(black_box(lent), black_box(input)));
+            black_box(&program(black_box(lent), black_box(input)));
         }
     })
 }
 
 /// Both must give the same answer, one that is `meant`, and leave the same
 /// octets. Gives the number of inputs compared: it stops after a while.
-fn compare<A>(
+fn compare<A, R: Copy + Debug + PartialEq>(
     inputs: &[Input<A>],
-    archive: &impl Program<A>,
-    plain: &impl Program<A>,
-    meant: impl Fn(u32) -> bool,
+    archive: &impl Program<A, R>,
+    plain: &impl Program<A, R>,
+    meant: impl Fn(R) -> bool,
 ) -> Result<usize, String> {
     let start = Instant::now();
     for (place, input) in inputs.iter().enumerate() {
@@ -102,24 +103,26 @@ fn compare<A>(
         let (mut one, mut other) = (Lent::to(input), Lent::to(input));
         let (given, expected) = (archive(&mut one, input), plain(&mut other, input));
         if given != expected {
-            return Err(format!("input {place}: archive {given}, plain {expected}"));
+            return Err(format!(
+                "input {place}: archive {given:?}, plain {expected:?}"
+            ));
         }
         if one != other {
             return Err(format!("input {place}: the octets left differ"));
         }
         if !meant(given) {
-            return Err(format!("input {place}: an answer of {given} isn't meant"));
+            return Err(format!("input {place}: an answer of {given:?} isn't meant"));
         }
     }
     Ok(inputs.len())
 }
 
 /// Times both on the inputs on which they were found to agree.
-fn measure<A>(
+fn measure<A, R: Copy + Debug + PartialEq>(
     inputs: &[Input<A>],
-    archive: impl Program<A>,
-    plain: impl Program<A>,
-    meant: impl Fn(u32) -> bool,
+    archive: impl Program<A, R>,
+    plain: impl Program<A, R>,
+    meant: impl Fn(R) -> bool,
 ) -> Result<Figures, String> {
     let start = Instant::now();
     let compared = compare(inputs, &archive, &plain, meant)?;
@@ -359,9 +362,22 @@ fn search_small(setting: Setting) -> Result<Figures, String> {
     })
 }
 
+/// Any place, and the first one past the end.
+fn record_at(setting: Setting) -> Result<Figures, String> {
+    let inputs = inputs(setting, |table, draw| {
+        Input::new(&table, draw.below(table.state().count + 1))
+    });
+    measure(
+        &inputs,
+        |lent, input| archive::record_at(&lent.memory, input.state, input.asked),
+        |lent, input| plain::record_at(&lent.memory, input.state, input.asked),
+        |place| place.refusal == 0,
+    )
+}
+
 type Bench = fn(Setting) -> Result<Figures, String>;
 
-const CALLS: [(&str, Bench); 11] = [
+const CALLS: [(&str, Bench); 12] = [
     ("open", open),
     ("reserve, new", reserve_new),
     ("reserve, held", reserve_held),
@@ -373,6 +389,7 @@ const CALLS: [(&str, Bench); 11] = [
     ("slot state / dividing", slot_state_dividing),
     ("search, whole", search_whole),
     ("search, small", search_small),
+    ("record at", record_at),
 ];
 
 /// Prints the ratios of a call, and gives the worst of them on full tables. Adds

@@ -5,7 +5,7 @@ use std::hint::black_box;
 use super::archive::{self, number};
 use super::figures::{time, Figures, Side};
 use crate::draw::Draw;
-use crate::gemthatch::Block;
+use crate::gemthatch::{Block, Tally};
 use crate::groups;
 use crate::plain;
 
@@ -20,27 +20,35 @@ fn spoilt(draw: &mut Draw) -> bool {
     draw.below(16) == 0
 }
 
-/// Times two functions over the same inputs, once all their answers agree. A
+/// Times two functions over the same inputs, once all their answers agree and
+/// what they leave: each gets a copy of an input, made outside the time taken. A
 /// slice goes to them through a black box, or the peer would be compiled for the
 /// one length it meets.
-fn measure<I, A: PartialEq>(
+fn measure<I: Copy + PartialEq, A: PartialEq>(
     input: impl Fn(&mut Draw) -> I,
-    archive: impl Fn(&I) -> A,
-    plain: impl Fn(&I) -> A,
+    archive: impl Fn(&mut I) -> A,
+    plain: impl Fn(&mut I) -> A,
 ) -> Result<Figures, String> {
     let mut draw = Draw::from_seed(11);
     let inputs: Vec<I> = (0..INPUTS).map(|_| input(&mut draw)).collect();
-    if let Some(place) = inputs.iter().position(|i| archive(i) != plain(i)) {
-        return Err(format!("input {place}: the answers differ"));
+    for (place, &input) in inputs.iter().enumerate() {
+        let (mut one, mut other) = (input, input);
+        if archive(&mut one) != plain(&mut other) {
+            return Err(format!("input {place}: the answers differ"));
+        }
+        if one != other {
+            return Err(format!("input {place}: what is left differs"));
+        }
     }
+    let mut lent = inputs[..BATCH].to_vec();
     Ok(Figures::by_turns(BATCH, |side, number| {
         let start = number * BATCH % INPUTS;
-        let batch = &inputs[start..start + BATCH];
+        lent.copy_from_slice(&inputs[start..start + BATCH]);
         time(|| match side {
-            Side::Archive => batch.iter().for_each(|input| {
+            Side::Archive => lent.iter_mut().for_each(|input| {
                 black_box(&archive(black_box(input)));
             }),
-            Side::Plain => batch.iter().for_each(|input| {
+            Side::Plain => lent.iter_mut().for_each(|input| {
                 black_box(&plain(black_box(input)));
             }),
         })
@@ -88,8 +96,8 @@ fn write() -> Result<Figures, String> {
             }
             block
         },
-        |&block| archive::write(block),
-        |&block| plain::write(block),
+        |&mut block| archive::write(block),
+        |&mut block| plain::write(block),
     )
 }
 
@@ -105,8 +113,8 @@ fn rate() -> Result<Figures, String> {
             }
             (rates, draw.below(16))
         },
-        |&(ref rates, code)| archive::rate(black_box(rates), code),
-        |&(ref rates, code)| number(plain::rate(black_box(rates), code)),
+        |&mut (ref rates, code)| archive::rate(black_box(rates), code),
+        |&mut (ref rates, code)| number(plain::rate(black_box(rates), code)),
     )
 }
 
@@ -123,18 +131,61 @@ fn parameter() -> Result<Figures, String> {
                 false => (row, figure),
             }
         },
-        |&(row, figure)| archive::parameter(row, figure),
-        |&(row, figure)| number(plain::parameter(row, figure)),
+        |&mut (row, figure)| archive::parameter(row, figure),
+        |&mut (row, figure)| number(plain::parameter(row, figure)),
+    )
+}
+
+fn pick() -> Result<Figures, String> {
+    measure(
+        |draw| {
+            let n = match spoilt(draw) {
+                true => draw.one_of(&[0, 17]),
+                false => 1 + draw.below(16),
+            };
+            (n, draw.number() as u32)
+        },
+        |&mut (n, r)| archive::pick(n, r),
+        |&mut (n, r)| number(plain::pick(n, r)),
+    )
+}
+
+/// Half of what is counted is refused. A spoilt tally has one of its counts at
+/// the end or just before it.
+fn count() -> Result<Figures, String> {
+    measure(
+        |draw| {
+            let mut tally = Tally {
+                accepted: draw.below(1 << 31),
+                refused: draw.below(1 << 31),
+            };
+            if spoilt(draw) {
+                let end = u32::MAX - draw.below(2);
+                match draw.below(2) {
+                    0 => tally.accepted = end,
+                    _ => tally.refused = end,
+                }
+            }
+            let refusal = match draw.below(2) {
+                0 => 0,
+                _ => 1 + draw.below(22),
+            };
+            (tally, refusal)
+        },
+        |(tally, refusal)| archive::count(tally, *refusal),
+        |(tally, refusal)| plain::count(tally, *refusal),
     )
 }
 
 type Bench = fn() -> Result<Figures, String>;
 
-const CALLS: [(&str, Bench); 4] = [
+const CALLS: [(&str, Bench); 6] = [
     ("read", read),
     ("write", write),
     ("rate", rate),
     ("parameter", parameter),
+    ("pick", pick),
+    ("count", count),
 ];
 
 pub fn table() -> Result<(), String> {
