@@ -1,5 +1,6 @@
 // The tally of accepted and refused calls.
 ghost use mathlib.Core.Path.{_≡_};
+ghost use mathlib.Core.Bool.{cond};
 ghost use Rattle.tally.specs.Calls.{oneMore, counted};
 ghost use Rattle.tally.specs.Claims.{Claims};
 
@@ -12,27 +13,27 @@ pub struct Tally {
 
 const MOST: u32 = 4294967295;
 
-fn one_more(n: u32) -> u32
-    ensures { λ r. ⌜ r ≡ oneMore n ⌝ }
+fn one_if(holds: bool) -> u32
+    ensures { λ r. ⌜ r ≡ cond holds 1 0 ⌝ }
 {
-    if n < MOST {
-        return n + 1;
-    }
-    n
+    if holds { 1 } else { 0 }
+}
+
+// One more, where the call counts here. A sum takes no branch: which calls are refused, no processor can guess.
+fn raised(n: u32, counts: bool) -> u32
+    ensures { λ r. ⌜ r ≡ cond counts (oneMore n) n ⌝ }
+{
+    let room = n < MOST;
+    n + one_if(counts & room)
 }
 
 fn counted(t: Tally, refusal: u32) -> Tally
     ensures { λ r. ⌜ r ≡ counted t refusal ⌝ }
 {
-    if refusal == 0 {
-        return Tally {
-            accepted: one_more(t.accepted),
-            refused: t.refused,
-        };
-    }
+    let accepted = refusal == 0;
     Tally {
-        accepted: t.accepted,
-        refused: one_more(t.refused),
+        accepted: raised(t.accepted, accepted),
+        refused: raised(t.refused, !accepted),
     }
 }
 

@@ -1,24 +1,42 @@
--- `tally::counted` meets its contract: each way out goes by the test and by what `one_more` ensures. Assumes nothing.
+-- `tally::counted` meets its contract: one of the two is raised, by whether the refusal is 0. Assumes nothing.
+use Prim.Native.Nat.{ℕ}
+use mathlib.Core.Path.{_≡_, refl}
+use mathlib.Core.Bool.{Bool, true, false, cond, not}
+use lib.Dec.{eqb}
 use borrow.Author.Needs.{needs}
-use borrow.Author.Tests.{eq-eqb, ne-eqb}
 use Rattle.octets.specs.Refusals.{answer}
-use Rattle.tally.specs.Calls.{counted}
+use Rattle.tally.specs.declared.Tally.{Tally}
+use Rattle.tally.specs.Calls.{oneMore, counted}
 use Rattle.tally.proofs.counted.Statement.{statement}
 use Rattle.tally.proofs.counted.Tie as tie
 
-one-more-requires : tie.Need-one-more-requires
-one-more-requires c κs = search needs
+-- a tally with each count raised, where the call counts there
+abbrev raisedBy : Tally → Bool → Tally
+raisedBy t accepted =
+    record {
+      accepted = cond accepted (oneMore (t .accepted)) (t .accepted);
+      refused = cond (not accepted) (oneMore (t .refused)) (t .refused);
+    }
+
+-- that is the tally after the call
+raised-counted : (t : Tally) (refusal : ℕ) → raisedBy t (eqb refusal 0) ≡ counted t refusal
+unfolding counted answer
+raised-counted t refusal = go (eqb refusal 0)
+  where
+    go : (b : Bool) → raisedBy t b ≡ cond b (raisedBy t true) (raisedBy t false)
+    go true = refl
+    go false = refl
+
+raised-requires : tie.Need-raised-requires
+raised-requires c κs = search needs
+
+raised-requires-2 : tie.Need-raised-requires-2
+raised-requires-2 c κs = search needs
 
 returns : tie.Need-returns
-unfolding counted answer
-returns c = simp (eq-eqb _ _ (c .before .if1 .taken), c .one-more .ensures)
-
-one-more-requires-2 : tie.Need-one-more-requires-2
-one-more-requires-2 c κs = search needs
-
-returns-2 : tie.Need-returns-2
-unfolding counted answer
-returns-2 c = simp (ne-eqb _ _ (c .before .if1 .left), c .one-more2 .ensures)
+returns c =
+    let a = c .before .before .args in
+    rw (c .before .raised .ensures, c .raised2 .ensures) (raised-counted (a .t) (a .refusal))
 
 pub counted-spec : {M : Type 1} → statement M
-counted-spec = tie.close (tie.spec one-more-requires returns one-more-requires-2 returns-2)
+counted-spec = tie.close (tie.spec raised-requires raised-requires-2 returns)
