@@ -11,8 +11,10 @@ pub struct Tally {
     pub refused: u32,
 }
 
+// Where each count stops.
 const MOST: u32 = 4294967295;
 
+// 1 where it holds, else 0.
 fn one_if(holds: bool) -> u32
     ensures { λ r. ⌜ r ≡ cond holds 1 0 ⌝ }
 {
@@ -27,6 +29,7 @@ fn raised(n: u32, counts: bool) -> u32
     n + one_if(counts & room)
 }
 
+// The tally after a call.
 fn counted(t: Tally, refusal: u32) -> Tally
     ensures { λ r. ⌜ r ≡ counted t refusal ⌝ }
 {
