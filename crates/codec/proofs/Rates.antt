@@ -1,11 +1,11 @@
 -- The refusal of a rate lookup by the tests that led to it. Assumes nothing.
-use Prim.Native.Nat.{ℕ, _≤_, _<_}
+use Prim.Native.Nat.{ℕ, zero, suc, _≤_, _<_, zero-le}
 use mathlib.Core.Path.{_≡_, _∙_, ap}
-use mathlib.Core.Bool.{true, false, cond, not}
-use mathlib.Core.List.{List}
+use mathlib.Core.Bool.{true, false, cond, not, and-eq-true-iff}
+use mathlib.Core.List.{List, [], _∷_}
 use native.Mathlib.Omega.{arith}
 use borrow.Author.Tests.{eq-eqb, ne-eqb, eqb-true, eqb-false, le-leb, leb-true, not-false}
-use lib.Dec.{eqb}
+use lib.Dec.{leb, eqb}
 use lib.ListN.{length, getD}
 use Rattle.octets.specs.Lists.{every}
 use Rattle.octets.specs.Refusals.{firstOf}
@@ -15,20 +15,29 @@ use Rattle.codec.specs.Rates.{badList, rateTests, rateFound}
 
 -- ---- a list that is not bad
 
--- it has sixteen entries, and 0 at 7, 14 and 15
-pub badList-false : (rates : List ℕ) → badList rates ≡ false → (length rates ≡ 16) × (getD rates 7 0 ≡ 0) × (getD rates 14 0 ≡ 0) × (getD rates 15 0 ≡ 0)
+-- it has sixteen entries, 0 at 7, 14 and 15, and none above 60
+pub badList-false : (rates : List ℕ) → badList rates ≡ false → (length rates ≡ 16) × (getD rates 7 0 ≡ 0) × (getD rates 14 0 ≡ 0) × (getD rates 15 0 ≡ 0) × (every (λ r. leb r 60) rates ≡ true)
 unfolding badList
 badList-false rates h =
     let p15 = or-eq-false _ _ h in
     let p14 = or-eq-false _ _ (p15 .0) in
     let p7 = or-eq-false _ _ (p14 .0) in
     let p16 = or-eq-false _ _ (p7 .0) in
-    (same _ _ (p16 .0), same _ _ (p7 .1), same _ _ (p14 .1), same _ _ (p15 .1))
+    (same _ _ (p16 .0), same _ _ (p7 .1), same _ _ (p14 .1), same _ _ (p15 .1), not-false _ (p16 .1))
   where
     same : (a b : ℕ) → not (eqb a b) ≡ false → a ≡ b
     same a b e = eqb-true a b (not-false (eqb a b) e)
 
--- so it has 0 at every code up to 15 that is bad
+-- so at every code it has at most 60
+pub badList-entry : (rates : List ℕ) (code : ℕ) → badList rates ≡ false → getD rates code 0 ≤ 60
+badList-entry rates code h = go rates code (badList-false rates h .4)
+  where
+    go : (rs : List ℕ) (n : ℕ) → every (λ r. leb r 60) rs ≡ true → getD rs n 0 ≤ 60
+    go [] n e = zero-le
+    go (x ∷ xs) zero e = leb-true x 60 (and-eq-true-iff (leb x 60) (every (λ r. leb r 60) xs) .0 e .0)
+    go (x ∷ xs) (suc n) e = go xs n (and-eq-true-iff (leb x 60) (every (λ r. leb r 60) xs) .0 e .1)
+
+-- and 0 at every code up to 15 that is bad
 bad-code-entry : (rates : List ℕ) (code : ℕ) → badList rates ≡ false → code ≤ 15 → badCode code ≡ true → getD rates code 0 ≡ 0
 bad-code-entry rates code h l k =
     let p = badList-false rates h in

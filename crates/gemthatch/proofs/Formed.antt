@@ -1,29 +1,37 @@
 -- The state that a host forms from an answer over C, and how it tells a refusal. Assumes nothing.
-use Prim.Native.Nat.{ℕ, _+_, _-_, _≤_, zero-le}
+use Prim.Native.Nat.{ℕ, _+_, _-_, _%_, _<_, _≤_, zero-le}
+use native.Mathlib.Nat.{mod-lt}
 use native.Mathlib.Omega.{arith}
 use mathlib.Core.Path.{_≡_, refl, sym, ap, _∙_}
 use mathlib.Core.Bool.{Bool, true, false, cond, not, true≢false}
 use mathlib.Core.List.{List, [], _∷_, _++_, map}
 use lib.Dec.{leb}
-use lib.ListN.{length as len, length-append, length-map}
+use lib.ListN.{length as len, getD, length-append, length-map}
 use borrow.Author.Tests.{le-leb, lt-leb}
 use Rattle.octets.specs.Lists.{keep}
-use Rattle.octets.specs.Refusals.{answer}
+use Rattle.octets.specs.Refusals.{firstOf, answer, outside}
 use Rattle.octets.proofs.Lists.{length-keep-not}
-use Rattle.octets.proofs.Refusals.{by-refusal, answer-elim, answer-refused, answer-accepted, by-test}
+use Rattle.octets.proofs.Refusals.{by-refusal, firstOf-zero, outside-false, answer-elim, answer-refused, answer-accepted, by-test}
+use Rattle.codec.specs.declared.Found.{Found}
+use Rattle.codec.specs.Rates.{rateTests, refusedFound}
+use Rattle.codec.proofs.Rates.{badList-entry}
 use Rattle.record.specs.declared.Rec.{Rec}
 use Rattle.distance.specs.Distances.{isFar}
 use Rattle.sound.specs.Sound.{Channel, records, lasts, sound}
 use Rattle.sound.proofs.Sound.{Held, held}
 use Rattle.table.specs.declared.State.{State}
+use Rattle.table.specs.declared.Slot.{Slot}
+use Rattle.table.specs.declared.Slot.the-variants.{Free, Reusable, Taken, Refused}
 use Rattle.table.specs.Table.{Call, clock, reserve, distance, wipe, look, isLook, asked, bit, of, setFar, changed, reported}
 use Rattle.table.specs.Memory.{channel, stateOf, read, write, refusal, leaves, says, returned, openRefusal, openLeaves, openReturned}
+use Rattle.table.specs.Slots.{slotAnswer, said}
 use Rattle.table.proofs.Calls.{refusal-unsound, refused-gives, accepted-gives}
 use Rattle.table.proofs.Memory.{length-kept}
-use Rattle.search.specs.Search.{searched}
+use Rattle.search.specs.declared.Picked.{Picked}
+use Rattle.search.specs.Search.{searched, picked}
 use Rattle.search.proofs.Answers.{found-fits}
 use Rattle.gemthatch.specs.OverC.{overC, called}
-use Rattle.gemthatch.specs.Claims.{moved, formed, StateFormed, StateOpened, RefusalTold, ReportedSmall, FoundSmall}
+use Rattle.gemthatch.specs.Claims.{moved, formed, StateFormed, StateOpened, RefusalTold, ReportedSmall, FoundSmall, StateSmall, RateSmall, PickSmall}
 use Rattle.gemthatch.proofs.Most.{returned-called}
 
 -- ---- overC
@@ -69,6 +77,30 @@ reported-small m c h = answer-elim (reported (read m) c) (λ _. 0) (λ n. n ≤ 
 pub found-small : FoundSmall
 unfolding searched
 found-small m q places = found-fits m q places .1
+
+-- no slot's state has a number above 2
+said-small : (x : Slot) → said x .number ≤ 2
+said-small Free = zero-le
+said-small Reusable = omega arith
+said-small Taken = omega arith
+said-small (Refused n) = zero-le
+
+pub state-small : StateSmall
+state-small m slot = said-small (slotAnswer m slot)
+
+pub rate-small : RateSmall
+unfolding rateTests
+rate-small rates code =
+    answer-elim (record { refusal = 0; number = getD rates code 0 }) refusedFound (λ (f : Found). f .number ≤ 60) (firstOf (rateTests rates code))
+    (λ z. badList-entry rates code (firstOf-zero (rateTests rates code) refl z .0))
+    (λ _. zero-le)
+
+pub pick-small : PickSmall
+unfolding picked
+pick-small n r =
+    answer-elim (record { refusal = 0; place = r % n }) (λ k. record { refusal = k; place = 0 }) (λ (p : Picked). p .place < 16) (firstOf ((20, outside 1 16 n) ∷ []))
+    (λ z. let k = outside-false 1 16 n (firstOf-zero ((20, outside 1 16 n) ∷ []) refl z .0) in omega (arith, mod-lt r (k .0), k .1))
+    (λ _. omega arith)
 
 -- ---- the state formed
 

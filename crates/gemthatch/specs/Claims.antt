@@ -4,12 +4,14 @@ use mathlib.Core.Path.{_≡_}
 use mathlib.Core.Bool.{false, cond}
 use mathlib.Core.List.{List}
 use lib.Dec.{leb}
+use Rattle.codec.specs.Rates.{rateFound}
 use Rattle.sound.specs.Sound.{Channel}
 use Rattle.table.specs.declared.State.{State}
 use Rattle.table.specs.Table.{Call, clock, reserve, distance, wipe, look, isLook}
 use Rattle.table.specs.Memory.{channel, says, returned, openRefusal, openReturned}
+use Rattle.table.specs.Slots.{slotAnswer, said}
 use Rattle.search.specs.declared.Query.{Query}
-use Rattle.search.specs.Search.{searched}
+use Rattle.search.specs.Search.{searched, picked}
 use Rattle.gemthatch.specs.OverC.{overC, called}
 
 -- ---- what the host makes of a number
@@ -56,9 +58,24 @@ ReportedSmall = (m : Channel) (c : Call) → isLook c ≡ false → says m c .nu
 abbrev pub FoundSmall : Type 0
 FoundSmall = (m : Channel) (q : Query) (places : ℕ) → searched m q places .number ≤ 16
 
+-- a slot's state is at most 2
+abbrev pub StateSmall : Type 0
+StateSmall = (m : Channel) (slot : ℕ) → said (slotAnswer m slot) .number ≤ 2
+
+-- a rate is at most 60
+abbrev pub RateSmall : Type 0
+RateSmall = (rates : List ℕ) (code : ℕ) → rateFound rates code .number ≤ 60
+
+-- a pick is below 16
+abbrev pub PickSmall : Type 0
+PickSmall = (n r : ℕ) → picked n r .place < 16
+
 pub record Claims : Type 0 where
   pub state-formed : StateFormed
   pub state-opened : StateOpened
   pub refusal-told : RefusalTold
   pub reported-small : ReportedSmall
   pub found-small : FoundSmall
+  pub state-small : StateSmall
+  pub rate-small : RateSmall
+  pub pick-small : PickSmall

@@ -1,5 +1,5 @@
 -- `gemthatch::claims` promises what the laws prove. Assumes nothing.
-use Rattle.gemthatch.proofs.Formed.{state-formed, state-opened, refusal-told, reported-small, found-small}
+use Rattle.gemthatch.proofs.Formed.{state-formed, state-opened, refusal-told, reported-small, found-small, state-small, rate-small, pick-small}
 use Rattle.gemthatch.proofs.claims.Statement.{statement}
 use Rattle.gemthatch.proofs.claims.Tie as tie
 
@@ -11,6 +11,9 @@ returns c =
       refusal-told = refusal-told;
       reported-small = reported-small;
       found-small = found-small;
+      state-small = state-small;
+      rate-small = rate-small;
+      pick-small = pick-small;
     }
 
 pub claims-spec : {M : Type 1} → statement M
