@@ -197,12 +197,25 @@ fn put_offsets() {
     put(b"\n");
 }
 
-// ---- slips that the marked cases let through, and 000's example
+// ---- slips that the marked cases let through, the parameters' defaults, and 000's example
 
 // P1 and P2 read the same with d bits 27-25 reversed.
 fn put_d_bits() {
     put_group(b"d bit 25:", &p1_with(4, 0x21));
     put_group(b"d bit 27:", &p1_with(4, 0x24));
+}
+
+fn put_default(number: u32) {
+    put_number(codec::default_figure(number).number as u64);
+}
+
+// The defaults of the parameters, which no call over C gives.
+fn put_defaults() {
+    put(b"defaults:");
+    put_default(1);
+    put_default(2);
+    put_default(3);
+    put(b"\n");
 }
 
 // What a near station asks for in one superframe.
@@ -283,6 +296,7 @@ fn main() {
     put_t();
     put_offsets();
     put_d_bits();
+    put_defaults();
     put_spacing(b"M1 60, rate 7:", 60, 7);
     put_spacing(b"M1 4500, rate 8:", 4500, 8);
     put_near_and_far();
