@@ -1,6 +1,8 @@
-# make demo   a C host's day, with its tables and its tally, and the listing of the sample bursts
-# make test   everything that must hold, as the gate runs it; its last line is 'N passed, M failed'
-# make bench  the calls beside a plain Rust implementation, and the listing beside a plain and a tuned program, each in one run
+# make demo    a C host's day, with its tables and its tally, and the listing of the sample bursts
+# make test    everything that must hold, as .ci/run runs it; its last line is 'N passed, M failed'
+# make bench   the calls beside a plain Rust implementation, and the listing beside a plain and a tuned program
+# make second  builds the second program of tests/second, which test and bench use
+# make clean   removes all that was built
 
 archive := target/staticlib/libgemthatch.a
 second := target/second/release/second

@@ -3,8 +3,8 @@
  *
  *     gcc -Iinclude examples/host.c target/staticlib/libgemthatch.a -o host && ./host
  *
- * It says what it does line by line, shows its tables by a walk, and keeps a tally of its calls. Its exit status is not 0 where something
- * came out otherwise than this file says.
+ * It says what it does line by line, shows its tables by a walk, and keeps a tally of the day's calls, its own checks aside. Its exit
+ * status is not 0 where something came out otherwise than this file says.
  */
 #include <stdio.h>
 #include <string.h>
@@ -56,17 +56,17 @@ static uint32_t counted(uint32_t answer)
     return gemthatch_counted(&day, answer);
 }
 
-/* Says how a call went, its number as so many of something (or nothing), and hands the answer on. */
-static uint32_t told(const char *call, uint32_t answer, const char *of_what)
+/* Says how a call went, its number behind what it counts (or nothing), and hands the answer on. */
+static uint32_t told(const char *call, uint32_t answer, const char *counts)
 {
     const uint32_t refusal = gemthatch_refusal_of(answer);
     printf("  %-34s ", call);
     if (refusal != GEMTHATCH_ACCEPTED)
         printf("refused %u: %s\n", (unsigned)refusal, gemthatch_refusal_text(refusal));
-    else if (of_what == NULL)
+    else if (counts == NULL)
         printf("accepted\n");
     else
-        printf("%u %s\n", (unsigned)answer, of_what);
+        printf("%s: %u\n", counts, (unsigned)answer);
     return answer;
 }
 
@@ -93,11 +93,12 @@ static void show(const char *name, const gemthatch_channel *channel)
 {
     gemthatch_place place;
     uint32_t i;
-    printf("  %s: M1 %u, now %u, %u records\n", name, (unsigned)channel->m1, (unsigned)channel->now, (unsigned)channel->count);
+    printf("  a walk over %s: M1 %u, now %u, records: %u\n", name, (unsigned)channel->m1, (unsigned)channel->now,
+           (unsigned)channel->count);
     for (i = 0; (place = gemthatch_channel_record_at(channel, i)).handed; i++)
         printf("    station %u, first slot %u, rate %u, superframes %u, length %u, %s\n", (unsigned)place.record.station,
                (unsigned)place.record.first, (unsigned)place.record.rate, (unsigned)place.record.superframes,
-               (unsigned)place.record.length, place.record.far ? "far" : "near");
+               (unsigned)place.record.length, place.record.far ? "far" : "not far");
     count_call(place.refusal);
     expect(place.refusal == GEMTHATCH_ACCEPTED && i == channel->count, "a walk hands out every record, and then no more");
 }
@@ -106,6 +107,7 @@ static void show(const char *name, const gemthatch_channel *channel)
 static void show_octets(const gemthatch_channel *channel)
 {
     size_t i;
+    printf("  its octets:\n");
     for (i = 0; i < channel->octets; i++)
         printf("%s%02x%s", i % GEMTHATCH_RECORD_OCTETS == 0 ? "    " : " ", channel->memory[i],
                i % GEMTHATCH_RECORD_OCTETS == GEMTHATCH_RECORD_OCTETS - 1 ? "\n" : "");
@@ -166,7 +168,7 @@ static uint32_t place_block(const char *name, const gemthatch_channel *channel, 
         printf(" %u", (unsigned)gemthatch_list_slot(scratch, i));
     place = counted(gemthatch_pick(found, random));
     start = gemthatch_list_slot(scratch, place);
-    printf(", and takes %u\n", (unsigned)start);
+    printf(", and picks %u\n", (unsigned)start);
     expect(all_zero(scratch + found * GEMTHATCH_LIST_SLOT_OCTETS, sizeof scratch - found * GEMTHATCH_LIST_SLOT_OCTETS),
            "behind the answer the list is zero");
     return start;
@@ -198,10 +200,10 @@ int main(void)
     (void)told("Alder's clock", counted(gemthatch_channel_clock(&alder, 100u)), "records over");
     (void)told("Birch's clock", counted(gemthatch_channel_clock(&birch, 100u)), "records over");
     (void)told("the twin's clock", counted(gemthatch_channel_clock(&twin, 100u)), "records over");
-    (void)told("Alder: the visitor", take_burst(&alder, visitor, burst, 2u), NULL);
-    (void)told("Birch: the tenant", take_burst(&birch, tenant, burst, 3u), NULL);
-    (void)told("Birch: the resident", take_burst(&birch, resident, burst, 2u), NULL);
-    (void)told("the twin: the resident", take_burst(&twin, resident, burst, 2u), NULL);
+    (void)told("Alder: the visitor, 7003", take_burst(&alder, visitor, burst, 2u), NULL);
+    (void)told("Birch: the tenant, 7001", take_burst(&birch, tenant, burst, 3u), NULL);
+    (void)told("Birch: the resident, 7002", take_burst(&birch, resident, burst, 2u), NULL);
+    (void)told("the twin: the resident, 7002", take_burst(&twin, resident, burst, 2u), NULL);
     answer = told("Birch: the resident, once more", take_burst(&birch, resident, burst, 2u), NULL);
     expect_refused(answer, GEMTHATCH_REFUSED_HELD, "it is held already");
     answer = told("the twin: the same", take_burst(&twin, resident, burst, 2u), NULL);
@@ -219,6 +221,8 @@ int main(void)
     answer = counted(gemthatch_channel_distance(&alder, visitor, GEMTHATCH_KIND_RANGE, 200.0, 0.0, limit));
     (void)told("Alder: the visitor's distance", answer, "records");
     expect(answer == 1u, "it has one record");
+    show("Alder", &alder);
+    expect(holds(gemthatch_channel_record_at(&alder, 0u), visitor, 105u, 2u, 1u), "the visitor's record is far");
     expect(told_slot(&alder, 105u) == GEMTHATCH_REUSABLE, "all who hold 105 are far");
     answer = place_block("Alder", &alder, 105u, 111u, 2u, 4712u);
     expect(answer == 105u, "105 comes third, and 4712 mod 3 is 2");
@@ -241,17 +245,17 @@ int main(void)
     printf("\nLater: the tenant reserves again, and time goes on\n");
     (void)told("Birch's clock, slot 5000", counted(gemthatch_channel_clock(&birch, 5000u)), "records over");
     (void)told("the twin's clock, slot 5000", counted(gemthatch_channel_clock(&twin, 5000u)), "records over");
-    (void)told("Birch: the tenant", take_burst(&birch, tenant, burst, 1u), NULL);
+    (void)told("Birch: the tenant, 7001", take_burst(&birch, tenant, burst, 1u), NULL);
     answer = counted(gemthatch_channel_distance(&birch, tenant, GEMTHATCH_KIND_OFFSET, 90.0, 120.0, limit));
     (void)told("Birch: the tenant's distance", answer, "records");
     expect(answer == 2u, "it has two records");
-    (void)told("Birch: the visitor", take_burst(&birch, visitor, burst, 3u), NULL);
-    (void)told("the twin: the visitor", take_burst(&twin, visitor, burst, 3u), NULL);
+    (void)told("Birch: the visitor, 7003", take_burst(&birch, visitor, burst, 3u), NULL);
+    (void)told("the twin: the visitor, 7003", take_burst(&twin, visitor, burst, 3u), NULL);
     (void)told("Birch's clock, slot 9000", counted(gemthatch_channel_clock(&birch, 9000u)), "records over");
     (void)told("the twin's clock, slot 9000", counted(gemthatch_channel_clock(&twin, 9000u)), "records over");
     show("Birch", &birch);
     expect(holds(gemthatch_channel_record_at(&birch, 0u), tenant, 105u, 3u, 1u), "the tenant's record comes first, and is far");
-    expect(holds(gemthatch_channel_record_at(&birch, 1u), visitor, 5005u, 3u, 0u), "then the visitor's, which is near");
+    expect(holds(gemthatch_channel_record_at(&birch, 1u), visitor, 5005u, 3u, 0u), "then the visitor's, which is not far");
     expect(gemthatch_channel_record_at(&birch, 2u).handed == 0u, "and then no more");
 
     printf("\nMonth's end: the tenant leaves Birch\n");
@@ -275,6 +279,7 @@ int main(void)
         printf("\nBirch and its twin are the same in every octet, and the scratch list is empty.\n");
     else
         printf("\n%d things came out otherwise.\n", surprises);
-    printf("%u calls accepted, %u refused\n", (unsigned)day.accepted, (unsigned)day.refused);
+    printf("The day's tally: %u calls accepted, %u refused (a burst is up to three calls, a walk counts as one)\n", (unsigned)day.accepted,
+           (unsigned)day.refused);
     return surprises == 0 ? 0 : 1;
 }

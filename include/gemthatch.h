@@ -1,7 +1,7 @@
 /*
  * gemthatch.h - slot reservation for VDL Mode 4 ground stations
  *
- * This header is the manual of libgemthatch.a. It speaks C99 and C++.
+ * This header is the manual of libgemthatch.a. It speaks C99 and C++. The archive is for x86-64.
  *
  *     gcc -Iinclude host.c target/staticlib/libgemthatch.a
  *
@@ -13,8 +13,9 @@
  *
  * WHAT EVERY CALL PROMISES
  * Every call takes any numbers and any octets, and ends. Bad input gets a numbered refusal, the first that applies in the order given with
- * the call. A refused call changes no octet of the table, and the state stays what it was. A search's list is wiped with zeros at every
- * call, refused or not, and then holds the answer only. All of this is proved of the library's code, for every input.
+ * the call. A refused call changes no octet of the table, and the state stays what it was (but for a refused opening, which empties it). A
+ * search's list is wiped with zeros at every call, refused or not, and then holds the answer only. All of this is proved of the library's
+ * code, for every input.
  *
  * WHO OWNS WHAT
  * All memory is yours. The library allocates nothing, keeps no pointer after a call, and has no state of its own: what it knows is what you
@@ -24,7 +25,9 @@
  *
  * What a call is lent is a pointer and the number of octets behind it. No alignment is asked. NULL is allowed where that number is 0. A
  * search's list must not overlap the table's memory. A tally is lent by its pointer alone: it must point to a tally, aligned as any struct
- * of C, and not be NULL. These, and that so many octets are really there, are the only things that the library can't test for you.
+ * of C, and not be NULL. A channel, too, must not be NULL, and must have been through gemthatch_channel_open. The place that
+ * gemthatch_list_slot is given must be below the number found. These, and that so many octets are really there, are the only things that
+ * the library can't test for you.
  *
  * The table's memory and the state go together: hand back the memory as the last call left it, with the state that its answer gives.
  * `gemthatch_channel`, at the end of this file, does that for you.
@@ -41,7 +44,7 @@
 extern "C" {
 #endif
 
-/* An answer that is dropped by accident is a warning. */
+/* An answer that is dropped is a warning; gcc gives it behind a cast to void too. */
 #if defined(__GNUC__) || defined(__clang__)
 #define GEMTHATCH_MUST_USE __attribute__((warn_unused_result))
 #else
@@ -50,7 +53,7 @@ extern "C" {
 
 /* ---- sizes and limits --------------------------------------------------------------------------------------------------------------- */
 
-#define GEMTHATCH_BURST_OCTETS 9u           /* a superframe block reservation, n-10 to n-2 of the burst */
+#define GEMTHATCH_BURST_OCTETS 9u           /* a superframe block reservation, n-10 to n-2 of the burst; n is its last octet */
 #define GEMTHATCH_RATES 16u                 /* entries of a rate list, one for each code */
 #define GEMTHATCH_RECORD_OCTETS 12u         /* a record of the table */
 #define GEMTHATCH_RECORDS_MAX 2048u         /* records of a table, at least 1 */
@@ -69,8 +72,8 @@ extern "C" {
 #define GEMTHATCH_LENGTH_MAX 32u            /* slots in a block, at least 1 */
 #define GEMTHATCH_BS_MIN 2u                 /* slots from now to the first block */
 #define GEMTHATCH_BS_MAX 255u
-#define GEMTHATCH_MILES_MAX 4096.0          /* nautical miles that are told apart from unknown, and the highest reuse limit */
-#define GEMTHATCH_LIMIT_DEFAULT 150.0       /* the manual's default reuse limit (Q2a) */
+#define GEMTHATCH_MILES_MAX 4096.0          /* a range, or a part of an offset, beyond this is never far; also the highest reuse limit */
+#define GEMTHATCH_LIMIT_DEFAULT 150.0       /* the technical manual's default reuse limit, its Q2a */
 #define GEMTHATCH_TALLY_MAX 4294967295u     /* where each count of a tally stops */
 
 /* ---- answers and refusals ----------------------------------------------------------------------------------------------------------- */
@@ -115,10 +118,10 @@ static inline uint32_t gemthatch_refusal_of(uint32_t answer)
 static inline const char *gemthatch_refusal_text(uint32_t refusal)
 {
     static const char *const texts[] = {
-        "accepted", "wrong size", "no superframe block reservation", "invalid rate code", "roff outside 2..255", "bs outside 2..255",
+        "accepted", "wrong size", "no superframe block reservation", "bad rate code", "roff outside 2..255", "bs outside 2..255",
         "bo outside -127..127", "bad rate list", "address above 27 bits", "blg, bt, superframes or length out of range",
         "figure does not fit its parameter", "table not sound", "behind now", "above the last slot", "rate outside 1..60", "no superframes",
-        "already held", "table full", "reuse limit outside 0..4096", "search range", "wanted or n outside 1..16", "no block to use",
+        "already held", "table full", "reuse limit outside 0..4096", "bad search range", "wanted or n outside 1..16", "no block to use",
         "no such parameter"
     };
     return refusal < sizeof texts / sizeof texts[0] ? texts[refusal] : "no refusal of this library";
@@ -151,9 +154,9 @@ typedef struct gemthatch_writing {
 
 /*
  * Reads a reservation. The reserved bits (octet 6 bits 8-5, octet 9 bit 3) are ignored.
- * Refused, in this order: 1 length not 9, 2, 3, 4, 5, 6.
+ * Refused, in this order: 1 octets not 9, 2, 3, 4, 5, 6.
  */
-GEMTHATCH_MUST_USE gemthatch_reading gemthatch_read(const uint8_t *octets, size_t length);
+GEMTHATCH_MUST_USE gemthatch_reading gemthatch_read(const uint8_t *burst, size_t octets);
 
 /*
  * Writes a reservation, the reserved bits 0. Reading what was written gives the same fields; writing what was read gives the same octets
@@ -182,7 +185,7 @@ GEMTHATCH_MUST_USE uint32_t gemthatch_parameter(uint32_t number, uint32_t figure
 /*
  * The memory is GEMTHATCH_RECORD_OCTETS for each record that it shall hold, 1 to GEMTHATCH_RECORDS_MAX. The state beside it is three
  * numbers: M1, now and count. Form the next state from an accepted answer as each call says; a refused call leaves memory and state as
- * they were.
+ * they were (but for a refused opening, which empties the state).
  *
  * A record reserves, for k below superframes and j below rate, the `length` slots from first + k*M1 + j*(M1/rate), the division's
  * remainder dropped. It is over when its last slot is before now.
@@ -214,6 +217,8 @@ enum gemthatch_kind {
 /*
  * Adds one record at the end: station, first slot now + bs, rate, superframes, length, and whether the station is far. A range is far if
  * limit <= a <= 4096; an offset if both parts lie in -4096..4096 and a*a + b*b >= limit*limit. Unknown and NaN are never far.
+ * From a burst that was read: rate is gemthatch_rate of br, bs is bs, length is blg + 1. The station is the one that sent it, not d;
+ * superframes is the host's to say, not bt.
  * Next state: m1, now, count + 1.
  * Returns 0. Refused, in this order: 11, 8, 14, 15, 9 superframes or length, 5, 18, 16, 17.
  */
@@ -257,12 +262,16 @@ GEMTHATCH_MUST_USE uint32_t gemthatch_slot_state(const uint8_t *memory, size_t o
  * slot, ascending; cut after `wanted`. Only the start has to lie in the range.
  * The list is octets, GEMTHATCH_LIST_SLOT_OCTETS to a slot, little-endian; octets left over at its end count for no place. All of it is
  * wiped at every call, refused or not. Slot 0 is a slot like any other: the number found says how many entries the list has.
+ * To reserve a start that was found, bs is start - now, so only starts in now + 2 .. now + 255 can be reserved: choose lo and hi
+ * accordingly.
+ * The state of each slot is asked over all records: on a full table a whole superframe takes from under a millisecond to a tenth of a
+ * second.
  * Returns the number found, 1..wanted. Refused, in this order: 11, 19, 9 length, 20, 1 list shorter than wanted, 21 none found.
  */
 GEMTHATCH_MUST_USE uint32_t gemthatch_search(const uint8_t *memory, size_t octets, uint32_t m1, uint32_t now, uint32_t count, uint32_t lo,
                                              uint32_t hi, uint32_t length, uint32_t wanted, uint8_t *list, size_t list_octets);
 
-/* The slot at a place, from 0, of a search's list. */
+/* The slot at a place, from 0, of a search's list. The place must be below the number found: this is not tested. */
 static inline uint32_t gemthatch_list_slot(const uint8_t *list, size_t place)
 {
     const uint8_t *at = list + place * GEMTHATCH_LIST_SLOT_OCTETS;
@@ -295,13 +304,17 @@ typedef struct gemthatch_place {
 } gemthatch_place;
 
 /*
- * Hands out record i, from 0, in the order of the table. From count on there is no more, however large i is. Nothing is changed.
+ * Hands out record i, from 0, in the order of the table. From count on there is no more, however large i is. Nothing is changed. A walk,
+ * with a channel, as at the end of this file:
  *
+ *     gemthatch_place place;
+ *     uint32_t i;
  *     for (i = 0; (place = gemthatch_channel_record_at(&channel, i)).handed; i++)
  *         printf("%u\n", (unsigned)place.record.station);
  *
  * After the loop place.refusal says why it ended: 0, all records were handed out; 11, the table isn't sound and none was. A call that
- * removes records moves the later ones to lower places: walk again then. Each call tests the table whole first, as every table call does.
+ * removes records moves the later ones to lower places: walk again then. Each call tests the table whole first, as every table call does,
+ * so the time of a walk grows with the square of the count: some 10 to 20 ms for 2,048 records.
  * Refused: 11.
  */
 GEMTHATCH_MUST_USE gemthatch_place gemthatch_record_at(const uint8_t *memory, size_t octets, uint32_t m1, uint32_t now, uint32_t count,
@@ -318,7 +331,7 @@ typedef struct gemthatch_tally {
 /*
  * Counts a call by its bare refusal, as reading, writing and the walk give it: 0 is accepted, any other number refused. That count goes up
  * by 1, or stays where it is GEMTHATCH_TALLY_MAX; the other stays. An answer that is a plain number would be taken for a refusal: those go
- * to gemthatch_counted.
+ * to gemthatch_counted. It counts calls, and has nothing to do with a table's count.
  * Returns nothing. Never refused.
  */
 void gemthatch_count(gemthatch_tally *tally, uint32_t refusal);

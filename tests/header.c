@@ -63,9 +63,12 @@ static gemthatch_block block_of(uint32_t d, uint32_t blg, uint32_t roff, uint32_
 static void bursts(void)
 {
     static const uint8_t rates[GEMTHATCH_RATES] = GEMTHATCH_TABLE_1_33;
+    /* The technical manual's Table 1-33 once more; 0 where it has no rate. */
+    static const uint32_t manual[16] = { 1, 2, 3, 4, 5, 6, 8, 0, 10, 12, 15, 20, 30, 60, 0, 0 };
     const gemthatch_block block = block_of(GEMTHATCH_STATION_MAX, GEMTHATCH_LENGTH_MAX - 1u, 255u, 13u, GEMTHATCH_BS_MAX, -127, 3u);
     gemthatch_writing written = gemthatch_write(block);
     gemthatch_reading read = gemthatch_read(written.octets, sizeof written.octets);
+    uint32_t code;
     IS(sizeof written.octets, GEMTHATCH_BURST_OCTETS);
     IS(written.refusal, 0u);
     IS(read.refusal, 0u);
@@ -80,7 +83,11 @@ static void bursts(void)
     IS(gemthatch_write(block_of(0, 0, 2, 0, GEMTHATCH_BS_MIN - 1u, 0, 0)).refusal, (uint32_t)GEMTHATCH_REFUSED_BS);
     IS(gemthatch_write(block_of(0, 0, 2, 0, GEMTHATCH_BS_MIN, -128, 0)).refusal, (uint32_t)GEMTHATCH_REFUSED_BO);
     IS(gemthatch_rate(rates, sizeof rates, 13u), GEMTHATCH_RATE_MAX);
-    REFUSES(gemthatch_rate(rates, sizeof rates, 15u), CODE);
+    for (code = 0; code < 16u; code++)
+        if (code == 7u || code >= 14u)
+            REFUSES(gemthatch_rate(rates, sizeof rates, code), CODE);
+        else
+            IS(gemthatch_rate(rates, sizeof rates, code), manual[code]);
     REFUSES(gemthatch_rate(rates, sizeof rates - 1u, 0u), RATE_LIST);
 }
 
@@ -97,6 +104,7 @@ static void parameters(void)
 static void tables(void)
 {
     const double limit = GEMTHATCH_LIMIT_DEFAULT;
+    check(limit == 150.0, __LINE__);
     REFUSES(gemthatch_channel_open(&channel, memory, sizeof memory, GEMTHATCH_M1_DEFAULT), SIZE);
     check(channel.m1 == 0u && channel.now == 0u && channel.count == 0u, __LINE__);
     REFUSES(gemthatch_channel_wipe(&channel, 0u), NOT_SOUND);

@@ -50,7 +50,7 @@ SoundOpened = (m1 : ℕ) (b : List ℕ) → openRefusal m1 b ≡ 0 → sound (op
 abbrev pub SoundKept : Type 0
 SoundKept = (m : Channel) (c : Call) → sound m ≡ true → sound (leaves m c) ≡ true
 
--- so after an accepted opening the table is sound at every call, and a call is refused for its own tests alone: 11 never comes
+-- so after an accepted opening the table is sound at every call, and a call is refused for its own tests alone, never because the table isn't sound
 abbrev pub NeverUnsound : Type 0
 NeverUnsound =
     (m1 : ℕ) (b : List ℕ) → openRefusal m1 b ≡ 0 → (cs : List Call) (c : Call)
