@@ -3,7 +3,9 @@
 
 use super::near::{self, once_in};
 use super::pair::{Channel, Pair};
+use crate::archive::Lent;
 use crate::draw::Draw;
+use crate::paper::search::Wish;
 use crate::paper::table::{Measure, Reservation, State, RECORD};
 use crate::paper::{Answer, LATEST, STATIONS};
 use crate::report::Verdict;
@@ -15,6 +17,8 @@ enum Step {
     Distance(Measure),
     Wipe(u32),
     SlotState(u32),
+    Search(Wish),
+    RecordAt(u32),
 }
 
 impl Step {
@@ -23,7 +27,7 @@ impl Step {
             Step::Reserve(asked) => Some(asked.station),
             Step::Distance(told) => Some(told.station),
             Step::Wipe(station) => Some(*station),
-            Step::Clock(_) | Step::SlotState(_) => None,
+            Step::Clock(_) | Step::SlotState(_) | Step::Search(_) | Step::RecordAt(_) => None,
         }
     }
 }
@@ -73,6 +77,8 @@ fn play(
             Step::Distance(told) => pair.distance(channel, &told)?,
             Step::Wipe(station) => pair.wipe(channel, station)?,
             Step::SlotState(slot) => pair.slot_state(channel, slot)?,
+            Step::Search(wish) => pair.search(channel, &wish, &mut Lent::holding(&[0xA5; 64]))?,
+            Step::RecordAt(i) => pair.record_at(channel, i)?.map(|_| 0),
         };
         let of_a = step.station() == Some(a);
         if step.station().is_some() && !of_a {
@@ -115,7 +121,7 @@ fn sequence(draw: &mut Draw, a: u32, m1: u32) -> Vec<Step> {
             near::station(draw)
         };
         let state = State { m1, now, count: 0 };
-        steps.push(match draw.below(16) {
+        steps.push(match draw.below(18) {
             0..=8 => {
                 let mut asked = near::reservation(draw);
                 if once_in(draw, 4) {
@@ -138,6 +144,16 @@ fn sequence(draw: &mut Draw, a: u32, m1: u32) -> Vec<Step> {
             }
             11 => Step::Wipe(station),
             12 => Step::SlotState(now + draw.below(300)),
+            13 => {
+                let lo = now + draw.below(9);
+                Step::Search(Wish {
+                    lo,
+                    hi: lo + draw.below(40),
+                    length: 1 + draw.below(9),
+                    wanted: 1 + draw.below(16),
+                })
+            }
+            14 => Step::RecordAt(draw.below(9)),
             _ => {
                 let slot = match draw.below(8) {
                     0 => near::number(draw, state),
