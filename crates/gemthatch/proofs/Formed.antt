@@ -31,7 +31,7 @@ use Rattle.search.specs.declared.Picked.{Picked}
 use Rattle.search.specs.Search.{searched, picked}
 use Rattle.search.proofs.Answers.{found-fits}
 use Rattle.gemthatch.specs.OverC.{overC, called}
-use Rattle.gemthatch.specs.Claims.{moved, formed, StateFormed, StateOpened, RefusalTold, ReportedSmall, FoundSmall, StateSmall, RateSmall, PickSmall}
+use Rattle.gemthatch.specs.Claims.{moved, formed, StateFormed, StateOpened, RefusalTold, ReportedSmall, FoundSmall, SlotSmall, RateSmall, PickSmall}
 use Rattle.gemthatch.proofs.Most.{returned-called}
 
 -- ---- overC
@@ -85,8 +85,8 @@ said-small Reusable = omega arith
 said-small Taken = omega arith
 said-small (Refused n) = zero-le
 
-pub state-small : StateSmall
-state-small m slot = said-small (slotAnswer m slot)
+pub slot-small : SlotSmall
+slot-small m slot = said-small (slotAnswer m slot)
 
 pub rate-small : RateSmall
 unfolding rateTests

@@ -59,8 +59,8 @@ abbrev pub FoundSmall : Type 0
 FoundSmall = (m : Channel) (q : Query) (places : ℕ) → searched m q places .number ≤ 16
 
 -- a slot's state is at most 2
-abbrev pub StateSmall : Type 0
-StateSmall = (m : Channel) (slot : ℕ) → said (slotAnswer m slot) .number ≤ 2
+abbrev pub SlotSmall : Type 0
+SlotSmall = (m : Channel) (slot : ℕ) → said (slotAnswer m slot) .number ≤ 2
 
 -- a rate is at most 60
 abbrev pub RateSmall : Type 0
@@ -76,6 +76,6 @@ pub record Claims : Type 0 where
   pub refusal-told : RefusalTold
   pub reported-small : ReportedSmall
   pub found-small : FoundSmall
-  pub state-small : StateSmall
+  pub slot-small : SlotSmall
   pub rate-small : RateSmall
   pub pick-small : PickSmall

@@ -1,5 +1,5 @@
 // Document 01's marked cases: one claim over the definitions, and the same cases run through the functions. Beside them run cases of
-// slips that the marked ones let through, and 000's example of a superframe block reservation.
+// slips that the marked ones let through, the parameters' defaults, and 000's example of a superframe block reservation.
 use distance::Distance;
 use distance::Offset;
 use libc::STDOUT_FILENO;

@@ -1,5 +1,5 @@
 -- `gemthatch::claims` promises what the laws prove. Assumes nothing.
-use Rattle.gemthatch.proofs.Formed.{state-formed, state-opened, refusal-told, reported-small, found-small, state-small, rate-small, pick-small}
+use Rattle.gemthatch.proofs.Formed.{state-formed, state-opened, refusal-told, reported-small, found-small, slot-small, rate-small, pick-small}
 use Rattle.gemthatch.proofs.claims.Statement.{statement}
 use Rattle.gemthatch.proofs.claims.Tie as tie
 
@@ -11,7 +11,7 @@ returns c =
       refusal-told = refusal-told;
       reported-small = reported-small;
       found-small = found-small;
-      state-small = state-small;
+      slot-small = slot-small;
       rate-small = rate-small;
       pick-small = pick-small;
     }
