@@ -141,14 +141,14 @@ module _ (s : State) (b : List ℕ) where
       accepted z =
           let k = accepted-held given c z in
           let x = reported (read given) c in
-          let g = accepted-gives given c (sym z) h .0 in
+          let g = accepted-gives given c (sym z) h .result in
           let e : called given c ≡ x = sym (returned-called _ given c g) ∙ overC-accepted x in
           rw (e, lt-leb 2_000_000_000 x (omega (arith, reported-most given c h k)), ← g) (moved-written c h k)
 
       refused : (refusal given c ≡ 0 → ⊥) → formed s c (called given c) ≡ returned given c .state
       refused z =
           let r = refusal given c in
-          let g = refused-gives given c r refl z .0 in
+          let g = refused-gives given c r refl z .result in
           let e : called given c ≡ 2_000_000_000 + r = sym (returned-called _ given c g) ∙ overC-refused r 0 z in
           rw (e, le-leb 2_000_000_000 (2_000_000_000 + r) (omega arith), ← g)
 

@@ -12,8 +12,10 @@ use Rattle.sound.specs.Sound.{records, lasts}
 use Rattle.table.specs.Table.{Table, clock}
 use Rattle.table.specs.Memory.{write, leaves}
 use Rattle.table.specs.Slots.{stateBy, slotState, slotAnswer, slotOn}
-use Rattle.trace.proofs.Kept.{after, run, Sound, sound-run}
-use Rattle.trace.proofs.Written.{records-write, leaves-records, empty, sound-empty, opened-runs, lent, lent-accepted}
+use Rattle.trace.specs.Machine.{runs}
+use Rattle.trace.specs.Records.{Sound, after, onRecords}
+use Rattle.trace.proofs.Machine.{runs-good}
+use Rattle.trace.proofs.Written.{records-write, leaves-records, refined, empty, sound-empty, opened-runs, lent, lent-accepted}
 use Rattle.trace.proofs.Looks.{slot-write}
 use Rattle.search.specs.declared.Query.{Query}
 use Rattle.search.specs.Search.{level0, level1, qualifying, listed, statesOf, tests, refusal, found}
@@ -25,10 +27,10 @@ use Rattle.marked.proofs.Searches.{refusal-write, found-write}
 module _ (d : Distance) where
   -- the table that holds T
   abbrev held : Table
-  held = run (empty 4500 lent) (callsT d)
+  held = runs onRecords (empty 4500 lent) (callsT d)
 
   sound-held : Sound held
-  sound-held = sound-run (empty 4500 lent) (callsT d) (sound-empty 4500 lent lent-accepted)
+  sound-held = runs-good refined (empty 4500 lent) (callsT d) (sound-empty 4500 lent lent-accepted)
 
   -- the octets are its
   written : tableT d ≡ write held

@@ -5,7 +5,7 @@ use mathlib.Core.List.{[]}
 use Rattle.octets.specs.Refusals.{firstOf, answer}
 use Rattle.table.specs.Table.{Table}
 use Rattle.table.specs.Memory.{write}
-use Rattle.trace.proofs.Kept.{Sound}
+use Rattle.trace.specs.Records.{Sound}
 use Rattle.trace.proofs.Written.{read-write, sound-write}
 use Rattle.search.specs.declared.Query.{Query}
 use Rattle.search.specs.Search.{listed, statesOf, tests, refusal, found}

@@ -16,7 +16,8 @@ use Rattle.table.specs.declared.Slot.the-variants.{Free, Taken}
 use Rattle.table.specs.Table.{Call, clock, reserve}
 use Rattle.table.specs.Memory.{leaves, opened}
 use Rattle.table.specs.Slots.{slotAnswer}
-use Rattle.trace.specs.Sequences.{runs}
+use Rattle.trace.specs.Machine.{runs}
+use Rattle.trace.specs.Sequences.{onOctets}
 use Rattle.search.specs.declared.Query.{Query}
 use Rattle.search.specs.Search.{refusal, found}
 
@@ -34,7 +35,7 @@ callsT d =
 
 -- T, alone in its table: M1 4500, and room for one record
 abbrev pub tableT : Distance → Channel
-tableT d = runs (opened 4500 (replicate 12 0)) (callsT d)
+tableT d = runs onOctets (opened 4500 (replicate 12 0)) (callsT d)
 
 -- T near
 abbrev pub near : Channel

@@ -16,14 +16,9 @@ use Rattle.record.specs.declared.Rec.{Rec}
 use Rattle.sound.specs.Sound.{Channel, records, sound}
 use Rattle.sound.proofs.Sound.{held}
 use Rattle.table.specs.declared.Request.{Request}
-use Rattle.table.specs.declared.Answer.{Answer}
 use Rattle.table.specs.Table.{Call, clock, reserve, distance, wipe, look, asked, requestTests, placeTests, tests, changed, reported, isLook}
-use Rattle.table.specs.Memory.{stateOf, read, packed, write, refusal, leaves, says, returned}
+use Rattle.table.specs.Memory.{stateOf, read, packed, write, refusal, leaves, says, returned, Gives}
 use Rattle.table.specs.Steps.{refused, swept, added, addedMemory}
-
--- `Gives m c r b`: the call is to return r and to leave the memory b
-abbrev pub Gives : Channel → Call → Answer → List ℕ → Type 0
-Gives m c r b = (r ≡ returned m c) × (b ≡ leaves m c .memory)
 
 -- ---- which refusal
 
@@ -52,10 +47,11 @@ refused-leaves m (look f) h = refl
 pub refused-gives : (m : Channel) (c : Call) (n : ℕ) → n ≡ refusal m c → (n ≡ 0 → ⊥) → Gives m c (refused n (stateOf m)) (m .memory)
 unfolding returned says
 refused-gives m c n e h =
-    let l = refused-leaves m c (λ z. h (e ∙ z)) in (
-      rw (← l, ← e) (ap (λ k. record { refusal = n; number = k; state = stateOf m }) (answer-refused (reported (read m) c) (λ _. 0) {n = n} refl h)),
-      ap (λ (u : Channel). u .memory) l,
-    )
+    let l = refused-leaves m c (λ z. h (e ∙ z)) in
+    record {
+      result = rw (← l, ← e) (ap (λ k. record { refusal = n; number = k; state = stateOf m }) (answer-refused (reported (read m) c) (λ _. 0) {n = n} refl h));
+      octets = ap (λ (u : Channel). u .memory) l;
+    }
 
 -- so where the table isn't sound
 pub unsound-gives : (m : Channel) (c : Call) → sound m ≡ false → Gives m c (refused 11 (stateOf m)) (m .memory)
@@ -82,10 +78,11 @@ pub accepted-gives : (m : Channel) (c : Call) → 0 ≡ refusal m c → isLook c
     → Gives m c (record { refusal = 0; number = reported (read m) c; state = stateOf (write (changed (read m) c)) }) (write (changed (read m) c) .memory)
 unfolding returned says
 accepted-gives m c h n =
-    let l = accepted-leaves m c h n in (
-      rw (← h, l) (ap (λ k. record { refusal = 0; number = k; state = stateOf (leaves m c) }) (answer-accepted (reported (read m) c) (λ _. 0) {m = 0} refl)),
-      ap (λ (u : Channel). u .memory) l,
-    )
+    let l = accepted-leaves m c h n in
+    record {
+      result = rw (← h, l) (ap (λ k. record { refusal = 0; number = k; state = stateOf (leaves m c) }) (answer-accepted (reported (read m) c) (λ _. 0) {m = 0} refl));
+      octets = ap (λ (u : Channel). u .memory) l;
+    }
 
 -- one that keeps the records that pass p, at time t, and reports those that pass q, which are the others
 pub sweep-gives : (m : Channel) (c : Call) → sound m ≡ true → firstOf (tests (read m) c) ≡ 0 → isLook c ≡ false
@@ -97,7 +94,7 @@ unfolding write
 sweep-gives m c h z n t p q f e r =
     let g = accepted-gives m c (sym (refusal-sound m c h ∙ z)) n in
     let d : m .count - length (keep p (records m)) ≡ reported (read m) c = rw r (omega (arith, held m h .counted, length-keep-not p q f (records m))) in
-    (rw (d, ← g .0, e), rw (← g .1, e))
+    record { result = rw (d, ← g .result, e); octets = rw (← g .octets, e) }
 
 -- ---- a reserve
 
@@ -144,7 +141,10 @@ module _ (m : Channel) (q : Request) where
       go : (n : ℕ) → firstOf (placeTests (read m) x) ≡ n → Gives m (reserve q) (added m x) (addedMemory m x)
       go zero f =
           let g = accepted-gives m (reserve q) (sym (e ∙ f)) refl in
-          (sym (answer-accepted _ _ (sym f)) ∙ rw (← l) (g .0), sym (answer-accepted _ _ (sym f)) ∙ g .1)
+          record { result = sym (answer-accepted _ _ (sym f)) ∙ rw (← l) (g .result); octets = sym (answer-accepted _ _ (sym f)) ∙ g .octets }
       go (suc n) f =
           let g = refused-gives m (reserve q) (suc n) (sym (e ∙ f)) (omega arith) in
-          (sym (answer-refused _ _ {n = suc n} (sym f) (omega arith)) ∙ g .0, sym (answer-refused _ _ {n = suc n} (sym f) (omega arith)) ∙ g .1)
+          record {
+            result = sym (answer-refused _ _ {n = suc n} (sym f) (omega arith)) ∙ g .result;
+            octets = sym (answer-refused _ _ {n = suc n} (sym f) (omega arith)) ∙ g .octets;
+          }

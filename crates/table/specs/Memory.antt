@@ -1,5 +1,6 @@
 -- The table in lent memory with the state beside it: what each call answers and leaves.
 use Prim.Native.Nat.{ℕ, _-_, _*_}
+use mathlib.Core.Path.{_≡_}
 use mathlib.Core.Bool.{not}
 use mathlib.Core.List.{List, [], _∷_, _++_}
 use lib.ListN.{length as len, replicate}
@@ -60,6 +61,11 @@ says m c = record { refusal = refusal m c; number = answer (refusal m c) (report
 unfoldable pub returned : Channel → Call → Answer
 returned m c = record { refusal = says m c .refusal; number = says m c .number; state = stateOf (leaves m c) }
 
+-- what each of the functions promises: on the channel m it returns r and leaves the octets b
+pub record Gives (m : Channel) (c : Call) (r : Answer) (b : List ℕ) : Type 0 where
+  pub result : r ≡ returned m c
+  pub octets : b ≡ leaves m c .memory
+
 -- ---- open
 
 -- what an opening is refused for: 10, 1
@@ -77,3 +83,8 @@ openLeaves m1 b = answer (openRefusal m1 b) (opened m1 b) (λ _. record { m1 = 0
 -- what open returns: the refusal, and the state handed back
 unfoldable pub openReturned : ℕ → List ℕ → Answer
 openReturned m1 b = record { refusal = openRefusal m1 b; number = 0; state = stateOf (openLeaves m1 b) }
+
+-- what open promises: on the octets b it returns r and leaves the octets x
+pub record OpenGives (m1 : ℕ) (b : List ℕ) (r : Answer) (x : List ℕ) : Type 0 where
+  pub result : r ≡ openReturned m1 b
+  pub octets : x ≡ openLeaves m1 b .memory

@@ -11,7 +11,7 @@ ghost use Rattle.distance.specs.Distances as Distances;
 ghost use Rattle.record.specs.Record.{view, blank, capacity};
 ghost use Rattle.sound.specs.Sound.{records, sound};
 ghost use Rattle.table.specs.Table.{clock, reserve, distance, wipe, bit, same, of, setFar, requestTests};
-ghost use Rattle.table.specs.Memory.{channel, packed, leaves, returned, openLeaves, openReturned};
+ghost use Rattle.table.specs.Memory.{channel, packed, Gives, OpenGives};
 ghost use Rattle.table.specs.Slots.{slotState, slotAnswer};
 ghost use Rattle.table.specs.Steps.{stays, sieved, mapped, refused, swept, added, addedMemory, holdsMore};
 
@@ -284,8 +284,7 @@ fn mark_all(memory: &mut [u8], n: usize, station: u32, far: u8) -> usize
 impl State {
     // Opens a table of M1 slots in lent memory. Refused, in this order: 10, 1.
     pub fn open(memory: &mut [u8], m1: u32) -> Answer
-        ensures answer { λ r. ⌜ r ≡ openReturned m1 (now (memory .entry)) ⌝ }
-        ensures memory { λ _. ⌜ now (memory .exit) ≡ openLeaves m1 (now (memory .entry)) .memory ⌝ }
+        ensures { λ r. ⌜ OpenGives m1 (now (memory .entry)) r (now (memory .exit)) ⌝ }
     {
         let none = State {
             m1: 0,
@@ -312,8 +311,7 @@ impl State {
 
     // Sets now and drops the records that are over; reports how many. Refused, in this order: 11, 12, 13.
     pub fn clock(self, memory: &mut [u8], slot: u32) -> Answer
-        ensures answer { λ r. ⌜ r ≡ returned (channel self (now (memory .entry))) (clock slot) ⌝ }
-        ensures memory { λ _. ⌜ now (memory .exit) ≡ leaves (channel self (now (memory .entry))) (clock slot) .memory ⌝ }
+        ensures { λ r. ⌜ Gives (channel self (now (memory .entry))) (clock slot) r (now (memory .exit)) ⌝ }
     {
         if is_sound(self, memory) {
             if slot < self.now {
@@ -335,8 +333,7 @@ impl State {
 
     // Adds one record at the end. Refused, in this order: 11, 8, 14, 15, 9, 5, 18, 16, 17.
     pub fn reserve(self, memory: &mut [u8], q: Request) -> Answer
-        ensures answer { λ r. ⌜ r ≡ returned (channel self (now (memory .entry))) (reserve q) ⌝ }
-        ensures memory { λ _. ⌜ now (memory .exit) ≡ leaves (channel self (now (memory .entry))) (reserve q) .memory ⌝ }
+        ensures { λ r. ⌜ Gives (channel self (now (memory .entry))) (reserve q) r (now (memory .exit)) ⌝ }
     {
         if is_sound(self, memory) {
             let n = judge_request(q);
@@ -360,8 +357,7 @@ impl State {
 
     // Rewrites far in all the station's records; reports how many it has. Refused, in this order: 11, 8, 18.
     pub fn distance(self, memory: &mut [u8], station: u32, d: Distance, limit: f64) -> Answer
-        ensures answer { λ r. ⌜ r ≡ returned (channel self (now (memory .entry))) (distance station d limit) ⌝ }
-        ensures memory { λ _. ⌜ now (memory .exit) ≡ leaves (channel self (now (memory .entry))) (distance station d limit) .memory ⌝ }
+        ensures { λ r. ⌜ Gives (channel self (now (memory .entry))) (distance station d limit) r (now (memory .exit)) ⌝ }
     {
         if is_sound(self, memory) {
             if 134217728 <= station {
@@ -384,8 +380,7 @@ impl State {
 
     // Removes the station's records; reports how many. Refused, in this order: 11, 8.
     pub fn wipe(self, memory: &mut [u8], station: u32) -> Answer
-        ensures answer { λ r. ⌜ r ≡ returned (channel self (now (memory .entry))) (wipe station) ⌝ }
-        ensures memory { λ _. ⌜ now (memory .exit) ≡ leaves (channel self (now (memory .entry))) (wipe station) .memory ⌝ }
+        ensures { λ r. ⌜ Gives (channel self (now (memory .entry))) (wipe station) r (now (memory .exit)) ⌝ }
     {
         if is_sound(self, memory) {
             if 134217728 <= station {

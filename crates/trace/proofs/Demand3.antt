@@ -6,23 +6,24 @@ use mathlib.Core.Bool.{true}
 use mathlib.Core.List.{List, [], _∷_}
 use lib.Dec.{leb}
 use borrow.Author.Tests.{leb-true, ne-eqb}
-use Rattle.octets.specs.Lists.{every}
 use Rattle.octets.specs.Refusals.{answer}
 use Rattle.octets.proofs.Lists.{keep-every, every-sub}
 use Rattle.octets.proofs.Refusals.{answer-refused, by-test, answer-elim}
 use Rattle.record.specs.declared.Rec.{Rec}
 use Rattle.sound.specs.Sound.{Channel, sound, inRange}
 use Rattle.sound.proofs.Ranges.{ranges}
-use Rattle.table.specs.declared.State.{State}
 use Rattle.table.specs.declared.Answer.{Answer}
 use Rattle.table.specs.Table.{Table, Said, Call, clock, reserve, distance, wipe, look, changed, reported, withRecords}
-use Rattle.table.specs.Memory.{channel, stateOf, read, write, refusal, acts, leaves, says, returned, openRefusal, opened, openLeaves, openReturned}
+use Rattle.table.specs.Memory.{channel, read, write, refusal, acts, leaves, says, returned, openRefusal, opened, openLeaves, openReturned, OpenGives}
 use Rattle.table.proofs.Calls.{refusal-sound, refused-leaves}
-use Rattle.trace.specs.Sequences.{runs, logs, is, without, roomy, saidBy, Made, none, made}
+use Rattle.trace.specs.Machine.{Machine, runs, Settles, Refines}
+use Rattle.trace.specs.Sequences.{onOctets, Called, is, without, WithoutTrace, MadeWithoutTrace}
+use Rattle.trace.specs.Records.{Sound, after, onRecords}
 use Rattle.trace.specs.Claims.{WipedWithoutTrace, RealCalls, SoundOpened, SoundKept, NeverUnsound, RefusedChangesNothing, OneResult}
-use Rattle.trace.proofs.Kept.{after, run, log, Sound, all-in-range, sound-changed, sound-run}
-use Rattle.trace.proofs.Written.{sound-write, sound-read, leaves-write, runs-write, logs-write, empty, sound-empty, opened-write}
-use Rattle.trace.proofs.Simulation.{stays, left, run-left, log-left}
+use Rattle.trace.proofs.Machine.{runs-good, runs-refined, logs-refined, made-runs, runs-untraced, logs-untraced}
+use Rattle.trace.proofs.Kept.{all-in-range, sound-changed}
+use Rattle.trace.proofs.Written.{sound-write, sound-read, refined, empty, sound-empty, opened-write}
+use Rattle.trace.proofs.Simulation.{stays, left, Alike, untraced}
 
 -- ---- the wipe at the end
 
@@ -42,51 +43,57 @@ after-wipe t A k = by-test (leb (2 ^ 27) A) (λ e. rw e (sym (left-beyond t A k 
 
 -- ---- demand 3
 
-pub wiped-without-trace : WipedWithoutTrace
-wiped-without-trace m1 b o A cs r =
-    let t = empty m1 b in
-    let k = sound-empty m1 b o in
-    let e = opened-write m1 b o in
-    let room : every (roomy (is A)) (log t cs) ≡ true = rw (e, logs-write t k cs) at r in
-    let z = sound-run t cs k in (
-      rw (e, runs-write t k cs, leaves-write (run t cs) z (wipe A), after-wipe (run t cs) A z, runs-write t k (without (is A) cs)) (ap write (run-left (is A) t cs k room)),
-      rw (e, logs-write t k cs, logs-write t k (without (is A) cs)) (log-left (is A) t cs k room),
+-- over records
+untraced-records : (t : Table) (A : ℕ) → Sound t → left (is A) t ≡ t → WithoutTrace onRecords t A
+untraced-records t A k e cs r =
+    let u = untraced (is A) in
+    let a : Alike (is A) t t = (k, sym e) in
+    (after-wipe (runs onRecords t cs) A (runs-good refined t cs k) ∙ sym (runs-untraced u t t cs a r .1), logs-untraced u t t cs a r)
+
+-- a machine that refines another leaves no trace where that one leaves none
+pub untraced-refined : {S T : Type 0} {k : Machine S Call Said} {l : Machine T Call Said} {write : T → S} {Good : T → Type 0}
+    → Refines k l write Good → (t : T) (A : ℕ) → Good t → WithoutTrace l t A → WithoutTrace k (write t) A
+untraced-refined f t A g d cs r =
+    let e = d cs (rw (logs-refined f t cs g) at r) in (
+      rw (runs-refined f t cs g, f .leaves _ (wipe A) (runs-good f t cs g), runs-refined f t (without (is A) cs) g, e .0),
+      rw (logs-refined f t cs g, logs-refined f t (without (is A) cs) g, e .1),
     )
+
+pub wiped-without-trace : WipedWithoutTrace
+wiped-without-trace m1 b o A =
+    let k = sound-empty m1 b o in
+    rw (opened-write m1 b o) (untraced-refined refined (empty m1 b) A k (untraced-records (empty m1 b) A k refl))
 
 -- ---- the same of real calls
 
--- a call's promise settles the table that it leaves, and its answer
-settled : (m : Channel) (c : Call) (r : Answer) (x : List ℕ) → r ≡ returned m c → x ≡ leaves m c .memory
-    → (channel (r .state) x ≡ leaves m c) × (saidBy r ≡ says m c)
-unfolding returned
-settled m c r x p q = (rw (p, q), rw p)
+-- where a promise settles what a call leaves and says, the calls made leave no trace where the machine leaves none
+pub made-untraced : {S : Type 0} (k : Machine S Call Said) {P : S → Call → Said → S → Type 0} → Settles k P
+    → (s : S) (A : ℕ) → WithoutTrace k s A → MadeWithoutTrace P s A
+made-untraced k p s A d cs t u v es fs w ms q mt r =
+    let i = made-runs k p ms in
+    let j = made-runs k p mt in
+    let e = d cs (rw (i .1) at r) in
+    (p t v (wipe A) w q .0 ∙ rw (i .0, j .0) (e .0), rw (i .1, j .1) (e .1))
 
--- so calls that were made ran as the definitions say
-made-runs : {s t : State} {b d : List ℕ} {cs : List Call} {es : List (Call × Said)} → Made s b cs t d es
-    → (channel t d ≡ runs (channel s b) cs) × (es ≡ logs (channel s b) cs)
-made-runs none = (refl, refl)
-made-runs (made {s = s} {b = b} {x = x} {c = c} {cs = cs} {r = r} p q d) =
-    let i = made-runs d in
-    let e = settled (channel s b) c r x p q in
-    (i .0 ∙ ap (λ u. runs u cs) (e .0), rw (i .1, e .0, e .1))
+-- a table call's promise does
+pub settled : Settles onOctets Called
+unfolding returned
+settled m n c w q =
+    let g = q .promised in
+    (q .left ∙ rw (g .result, g .octets), q .said ∙ rw (g .result))
 
 -- an accepted opening's promise settles the table that it leaves
-open-settled : (m1 : ℕ) (b : List ℕ) (o : Answer) (z : List ℕ) → o ≡ openReturned m1 b → z ≡ openLeaves m1 b .memory → o .refusal ≡ 0
+open-settled : (m1 : ℕ) (b : List ℕ) (o : Answer) (z : List ℕ) → OpenGives m1 b o z → o .refusal ≡ 0
     → (openRefusal m1 b ≡ 0) × (channel (o .state) z ≡ opened m1 b)
 unfolding openReturned openLeaves answer
-open-settled m1 b o z p q e =
-    let f : openRefusal m1 b ≡ 0 = sym (ap (λ u. u .refusal) p) ∙ e in
-    (f, rw (p, q, f))
+open-settled m1 b o z g e =
+    let f : openRefusal m1 b ≡ 0 = sym (ap (λ u. u .refusal) (g .result)) ∙ e in
+    (f, rw (g .result, g .octets, f))
 
 pub real-calls : RealCalls
-real-calls m1 b o z p q e A cs s t x y es fs ms mt w v pw pv r =
-    let i = open-settled m1 b o z p q e in
-    let u = made-runs ms in
-    let n = made-runs mt in
-    let room : every (roomy (is A)) (logs (opened m1 b) cs) ≡ true = rw (u .1, i .1) at r in
-    let d = wiped-without-trace m1 b (i .0) A cs room in
-    let l : channel (w .state) v ≡ channel t y = settled (channel s x) (wipe A) w v pw pv .0 ∙ rw (u .0, n .0, i .1) (d .0) in
-    (ap stateOf l, ap (λ k. k .memory) l, rw (u .1, n .1, i .1) (d .1))
+real-calls m1 b o z g e A =
+    let i = open-settled m1 b o z g e in
+    rw (i .1) (made-untraced onOctets settled (opened m1 b) A (wiped-without-trace m1 b (i .0) A))
 
 -- ---- soundness
 
@@ -109,7 +116,7 @@ sound-kept m (wipe s) h = sound-acts m (wipe s) h
 sound-kept m (look f) h = h
 
 -- and what a sequence leaves
-sound-runs : (m : Channel) (cs : List Call) → sound m ≡ true → sound (runs m cs) ≡ true
+sound-runs : (m : Channel) (cs : List Call) → sound m ≡ true → sound (runs onOctets m cs) ≡ true
 sound-runs m [] h = h
 sound-runs m (c ∷ cs) h = sound-runs (leaves m c) cs (sound-kept m c h)
 
@@ -117,7 +124,7 @@ pub never-unsound : NeverUnsound
 unfolding says
 never-unsound m1 b o cs c =
     let h = sound-runs (opened m1 b) cs (sound-opened m1 b o) in
-    (h, refusal-sound (runs (opened m1 b) cs) c h)
+    (h, refusal-sound (runs onOctets (opened m1 b) cs) c h)
 
 -- ---- refusals and results
 
@@ -126,4 +133,4 @@ unfolding says
 refused-changes-nothing m c h = (sym (refused-leaves m c h), sym (answer-refused (reported (read m) c) (λ _. 0) refl h))
 
 pub one-result : OneResult
-one-result s b c r q x y rs xs qs ys = (rs ∙ sym qs, xs ∙ sym ys)
+one-result s b c r q x y g h = (g .result ∙ sym (h .result), g .octets ∙ sym (h .octets))

@@ -9,55 +9,23 @@ use lib.Dec.{leb, ltb}
 use lib.ListN.{length as len, length-append, length-map}
 use borrow.Author.Tests.{ltb-false, leb-false, eqb-false, lt-ltb, le-ltb, le-leb}
 use Rattle.octets.specs.Lists.{keep, every}
-use Rattle.octets.specs.Refusals.{firstOf, answer, outside, within}
+use Rattle.octets.specs.Refusals.{outside}
 use Rattle.octets.proofs.Lists.{every-keep, every-kept, every-append, every-map, every-sub, every-and, length-keep}
 use Rattle.octets.proofs.Refusals.{firstOf-zero, or-eq-false, outside-false, answer-elim}
-use Rattle.codec.specs.Parameters as Parameters
 use Rattle.distance.specs.Distances.{isFar}
 use Rattle.record.specs.declared.Rec.{Rec}
 use Rattle.series.specs.Series.{lastSlot}
 use Rattle.sound.specs.Sound.{inRange, lasts, good}
 use Rattle.table.specs.declared.Request.{Request}
-use Rattle.table.specs.Table.{Table, Said, Call, clock, reserve, distance, wipe, look, bit, asked, setFar, of, tests, changed, reported, withRecords}
-
--- ---- the calls on a sound table, over records
-
--- 11 is not among the refusals
-abbrev pub refusalOn : Table → Call → ℕ
-refusalOn t c = firstOf (tests t c)
-
--- the table that a call leaves
-unfoldable pub after : Table → Call → Table
-after t c = answer (refusalOn t c) (changed t c) (λ _. t)
-
--- its answer
-unfoldable pub told : Table → Call → Said
-told t c = record { refusal = refusalOn t c; number = answer (refusalOn t c) (reported t c) (λ _. 0) }
-
--- the table that a sequence leaves
-abbrev pub run : Table → List Call → Table
-run t [] = t
-run t (c ∷ cs) = run (after t c) cs
-
--- the calls of a sequence, each with its answer
-abbrev pub log : Table → List Call → List (Call × Said)
-log t [] = []
-log t (c ∷ cs) = (c, told t c) ∷ log (after t c) cs
+use Rattle.table.specs.Table.{Table, Said, Call, clock, reserve, distance, wipe, look, bit, asked, setFar, of, tests, changed, withRecords}
+use Rattle.trace.specs.Records.{Sound, refusalOn, after}
 
 -- a slot state or a search leaves the table, refused or not
 pub after-look : (t : Table) (f : Table → Said) → after t (look f) ≡ t
 unfolding after
 after-look t f = answer-elim t (λ _. t) (λ u. u ≡ t) (refusalOn t (look f)) (λ _. refl) (λ _. refl)
 
--- ---- a table whose octets are sound
-
--- what soundness asks, over records
-pub record Sound (t : Table) : Type 0 where
-  pub m1-fits : Parameters.fits 1 (t .m1) ≡ true
-  pub capacity-fits : within 1 2048 (t .capacity) ≡ true
-  pub now-most : t .now ≤ 1_000_000_000
-  pub room : len (t .records) ≤ t .capacity
-  pub all-good : every (good (t .m1) (t .now)) (t .records) ≡ true
+-- ---- a sound table
 
 -- the records of a sound table are in range
 pub all-in-range : (t : Table) → Sound t → every inRange (t .records) ≡ true
@@ -143,8 +111,3 @@ sound-changed t (look f) k h = k
 pub sound-after : (t : Table) (c : Call) → Sound t → Sound (after t c)
 unfolding after
 sound-after t c k = answer-elim (changed t c) (λ _. t) Sound (refusalOn t c) (sound-changed t c k) (λ _. k)
-
--- and any sequence
-pub sound-run : (t : Table) (cs : List Call) → Sound t → Sound (run t cs)
-sound-run t [] k = k
-sound-run t (c ∷ cs) k = sound-run (after t c) cs (sound-after t c k)

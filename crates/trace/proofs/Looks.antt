@@ -11,8 +11,8 @@ use Rattle.table.specs.Table.{Table}
 use Rattle.table.specs.Memory.{read, write}
 use Rattle.table.specs.Slots.{slotAnswer, said, slotOn, asks}
 use Rattle.table.proofs.Looks.{says-look, says-look-unsound}
+use Rattle.trace.specs.Records.{Sound}
 use Rattle.trace.specs.Claims.{SlotStateLooks}
-use Rattle.trace.proofs.Kept.{Sound}
 use Rattle.trace.proofs.Written.{read-write, sound-write}
 
 -- of a sound table's octets it goes by the records

@@ -7,24 +7,26 @@ use Rattle.octets.specs.Refusals.{answer}
 use Rattle.record.specs.Record.{size, capacity}
 use Rattle.table.specs.Table.{Call, reserve, wipe, same}
 use Rattle.table.specs.Memory.{write, leaves}
-use Rattle.trace.specs.Sequences.{runs, without, is}
+use Rattle.trace.specs.Machine.{runs}
+use Rattle.trace.specs.Sequences.{onOctets, without, is}
+use Rattle.trace.specs.Records.{after, onRecords}
 use Rattle.trace.specs.Claims.{oneSlot, opened1, PremiseNeeded}
-use Rattle.trace.proofs.Kept.{after, run, sound-run}
-use Rattle.trace.proofs.Written.{leaves-write, empty, sound-empty, opened-runs, lent, lent-accepted}
+use Rattle.trace.proofs.Machine.{runs-good}
+use Rattle.trace.proofs.Written.{leaves-write, refined, empty, sound-empty, opened-runs, lent, lent-accepted}
 
 -- the calls of both stations
 abbrev both : List Call
 both = reserve (oneSlot 1) ∷ reserve (oneSlot 2) ∷ []
 
 -- both stations' calls and the wipe leave none
-none-left : leaves (runs opened1 both) (wipe 1) .count ≡ 0
+none-left : leaves (runs onOctets opened1 both) (wipe 1) .count ≡ 0
 unfolding after answer ofInt le capacity size same write
 none-left =
     let t = empty 4500 lent in
-    rw (opened-runs 4500 lent lent-accepted both, leaves-write (run t both) (sound-run t both (sound-empty 4500 lent lent-accepted)) (wipe 1))
+    rw (opened-runs 4500 lent lent-accepted both, leaves-write (runs onRecords t both) (runs-good refined t both (sound-empty 4500 lent lent-accepted)) (wipe 1))
 
 -- station 2's alone leave one
-one-left : runs opened1 (without (is 1) both) .count ≡ 1
+one-left : runs onOctets opened1 (without (is 1) both) .count ≡ 1
 unfolding after answer ofInt le capacity size write
 one-left = rw (opened-runs 4500 lent lent-accepted (reserve (oneSlot 2) ∷ []))
 

@@ -1,5 +1,5 @@
 -- Over records, for any set `gone` of stations: a sequence, with their records taken out at its end, is the sequence without their calls.
--- One law for each call, then the sequence. Assumes nothing.
+-- One law for each call; the sequence is a law of machines. Assumes nothing.
 use Prim.Native.Nat.{ℕ}
 use native.Mathlib.Omega.{arith}
 use mathlib.Core.Path.{_≡_, refl, sym, ap, _∙_}
@@ -8,7 +8,7 @@ use mathlib.Core.List.{List, [], _∷_, _++_, append-nil}
 use lib.Dec.{eqb}
 use lib.ListN.{length as len}
 use borrow.Author.Tests.{eqb-true, eqb-false, ne-eqb, not-true}
-use Rattle.octets.specs.Lists.{keep, has, every}
+use Rattle.octets.specs.Lists.{keep, has}
 use Rattle.octets.specs.Refusals.{firstOf}
 use Rattle.octets.proofs.Lists.{keep-comm, keep-sub, keep-append, keep-map, map-keep, has-keep, length-keep}
 use Rattle.octets.proofs.Refusals.{firstOf-last, by-test, answer-elim, answer-map}
@@ -17,8 +17,10 @@ use Rattle.record.specs.declared.Rec.{Rec}
 use Rattle.sound.specs.Sound.{lasts}
 use Rattle.table.specs.declared.Request.{Request}
 use Rattle.table.specs.Table.{Table, Call, clock, reserve, distance, wipe, look, bit, asked, same, of, setFar, requestTests, changed, withRecords}
-use Rattle.trace.specs.Sequences.{names, others, without, othersTold, roomy}
-use Rattle.trace.proofs.Kept.{refusalOn, after, after-look, told, run, log, Sound, sound-after}
+use Rattle.trace.specs.Sequences.{names, others, roomy}
+use Rattle.trace.specs.Records.{Sound, refusalOn, after, told, onRecords}
+use Rattle.trace.proofs.Machine.{Untraced}
+use Rattle.trace.proofs.Kept.{after-look, sound-after}
 
 module _ (gone : ℕ → Bool) where
   -- a record of a station that stays
@@ -122,7 +124,7 @@ module _ (gone : ℕ → Bool) where
     kept-told (wipe s) n r = rw (keep-sub (of s) stays (of-stays s (not-true (gone s) n)) (t .records))
     kept-told (look f) n r = absurd (false≢true n)
 
-  -- ---- the sequence
+  -- ---- two tables side by side
 
   -- a station that goes is none of the others
   names-others : (c : Call) → names gone c ≡ true → names (others gone) c ≡ false
@@ -132,22 +134,15 @@ module _ (gone : ℕ → Bool) where
   names-others (wipe s) g = rw g
   names-others (look f) g = refl
 
-  -- the tables left
-  pub run-left : (t : Table) (cs : List Call) → Sound t → every (roomy gone) (log t cs) ≡ true → left (run t cs) ≡ run (left t) (without gone cs)
-  run-left t [] k r = refl
-  run-left t (c ∷ cs) k r =
-      let p = and-eq-true-iff (roomy gone (c, told t c)) (every (roomy gone) (log (after t c) cs)) .0 r in
-      let i = run-left (after t c) cs (sound-after t c k) (p .1) in
-      by-test (names gone c) (λ g. rw (g, i, gone-after t c g)) (λ g. rw (g, i, kept-after t k c g (p .0)))
+  -- two sound tables alike: the second has the records of the stations that stay
+  abbrev pub Alike : Table → Table → Type 0
+  Alike t u = Sound t × (u ≡ left t)
 
-  -- the answers given to the others
-  pub log-left : (t : Table) (cs : List Call) → Sound t → every (roomy gone) (log t cs) ≡ true
-      → othersTold gone (log t cs) ≡ othersTold gone (log (left t) (without gone cs))
-  log-left t [] k r = refl
-  log-left t (c ∷ cs) k r =
-      let p = and-eq-true-iff (roomy gone (c, told t c)) (every (roomy gone) (log (after t c) cs)) .0 r in
-      let i = log-left (after t c) cs (sound-after t c k) (p .1) in
-      by-test (names gone c)
-      (λ g. rw (g, names-others c g, i, gone-after t c g))
-      (λ g. rw (g, i, kept-after t k c g (p .0))
-      (by-test (names (others gone) c) (λ n. rw (n, kept-told t k c n (p .0))) (λ n. rw n)))
+  pub untraced : Untraced onRecords Alike (names gone) (names (others gone)) (roomy gone)
+  untraced =
+      record {
+        gone = λ t u c a g. (sound-after t c (a .0), a .1 ∙ sym (gone-after t c g));
+        kept = λ t u c a g r. (sound-after t c (a .0), rw (a .1) (kept-after t (a .0) c g r));
+        told = λ t u c a n r. rw (a .1) (kept-told t (a .0) c n r);
+        apart = names-others;
+      }

@@ -6,25 +6,30 @@ use mathlib.Core.Path.{_≡_, refl, sym, ap, _∙_}
 use mathlib.Core.Bool.{true, not, and-eq-true-iff}
 use mathlib.Core.List.{List, [], _∷_}
 use lib.Dec.{lit<}
-use lib.ListN.{length as len, take, replicate, length-append, length-replicate}
+use lib.ListN.{length as len, take, replicate, length-append, length-replicate, take-append-drop}
 use lib.Seq.{drop-at}
 use borrow.Author.Tests.{le-leb, not-false}
 use Rattle.octets.specs.Lists.{every}
+use Rattle.octets.specs.Octets.{AreOctets}
 use Rattle.octets.specs.Refusals.{within}
 use Rattle.octets.proofs.Zeros.{zeros-replicate}
 use Rattle.octets.proofs.Refusals.{firstOf-zero, answer-map}
 use Rattle.codec.specs.Parameters as Parameters
 use Rattle.record.specs.Record.{size, capacity, fields, image, whole, rest, view, FitRec, AllFit}
 use Rattle.record.specs.declared.Rec.{Rec}
-use Rattle.record.proofs.Views.{whole-length, length-image, view-front}
+use Rattle.record.proofs.Views.{whole-length, length-image, view-front, image-take}
 use Rattle.sound.specs.Sound.{Channel, records, sizeFits, numbersFit, sound, inRange}
-use Rattle.sound.proofs.Sound.{held}
+use Rattle.sound.proofs.Sound.{Held, held}
 use Rattle.sound.proofs.Ranges.{ranges}
 use Rattle.table.specs.Table.{Table, Call, clock, reserve, distance, wipe, look, changed}
 use Rattle.table.specs.Memory.{read, packed, write, refusal, acts, leaves, says, openRefusal, opened}
 use Rattle.table.proofs.Calls.{refusal-sound}
-use Rattle.trace.specs.Sequences.{runs, logs}
-use Rattle.trace.proofs.Kept.{refusalOn, after, after-look, told, run, log, Sound, all-in-range, sound-after}
+use Rattle.trace.specs.Machine.{runs}
+use Rattle.trace.specs.Sequences.{onOctets}
+use Rattle.trace.specs.Records.{Sound, refusalOn, after, told, onRecords}
+use Rattle.trace.specs.Claims.{ReadBack, WrittenBack, Refined}
+use Rattle.trace.proofs.Machine.{runs-refined}
+use Rattle.trace.proofs.Kept.{after-look, all-in-range, sound-after}
 
 -- ---- records read back
 
@@ -106,7 +111,23 @@ sound-read m h =
     let k = held m h in
     record { m1-fits = k .m1-fits; capacity-fits = k .capacity-fits; now-most = k .now-most; room = rw (k .counted) (k .room); all-good = k .all-good }
 
--- ---- a call, and a sequence
+pub read-back : ReadBack
+read-back t k = (sound-write t k, read-write t k)
+
+-- the records of a sound table, packed, are its octets
+packed-records : (m : Channel) → Held m → AreOctets (m .memory) → packed (capacity (m .memory)) (records m) ≡ m .memory
+unfolding packed records
+packed-records m k b =
+    rw (image-take (m .memory) b (k .whole-records) (m .count) (k .room), k .counted, ← k .tail) (take-append-drop (m .count * size) (m .memory))
+
+pub written-back : WrittenBack
+unfolding read write
+written-back m b h =
+    let k = held m h in
+    let e = packed-records m k b in
+    (sound-read m h, λ i. record { m1 = m .m1; now = m .now; count = k .counted i; memory = e i })
+
+-- ---- a call
 
 module _ (t : Table) (k : Sound t) where
   -- a call gets the same refusal
@@ -136,15 +157,8 @@ module _ (t : Table) (k : Sound t) where
   unfolding says told
   says-write c = rw (refusal-write c, read-write t k)
 
--- a sequence leaves the octets of what it leaves over records
-pub runs-write : (t : Table) → Sound t → (cs : List Call) → runs (write t) cs ≡ write (run t cs)
-runs-write t k [] = refl
-runs-write t k (c ∷ cs) = rw (leaves-write t k c, runs-write (after t c) (sound-after t c k) cs)
-
--- and gets the same answers
-pub logs-write : (t : Table) → Sound t → (cs : List Call) → logs (write t) cs ≡ log t cs
-logs-write t k [] = refl
-logs-write t k (c ∷ cs) = rw (leaves-write t k c, says-write t k c, logs-write (after t c) (sound-after t c k) cs)
+pub refined : Refined
+refined = record { leaves = λ t c k. leaves-write t k c; says = λ t c k. says-write t k c; kept = λ t c k. sound-after t c k }
 
 -- ---- an accepted opening
 
@@ -174,8 +188,8 @@ module _ (m1 : ℕ) (b : List ℕ) (o : openRefusal m1 b ≡ 0) where
       rw e
 
   -- so a sequence after it goes by records
-  pub opened-runs : (cs : List Call) → runs (opened m1 b) cs ≡ write (run (empty m1 b) cs)
-  opened-runs cs = rw (opened-write, runs-write (empty m1 b) sound-empty cs)
+  pub opened-runs : (cs : List Call) → runs onOctets (opened m1 b) cs ≡ write (runs onRecords (empty m1 b) cs)
+  opened-runs cs = rw (opened-write, runs-refined refined (empty m1 b) cs sound-empty)
 
 -- ---- the table of the cases: M1 4500, and room for one record
 

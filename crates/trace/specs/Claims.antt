@@ -4,7 +4,7 @@ use mathlib.Core.Path.{_≡_}
 use mathlib.Core.Bool.{true}
 use mathlib.Core.List.{List, [], _∷_}
 use lib.ListN.{replicate}
-use Rattle.octets.specs.Lists.{every}
+use Rattle.octets.specs.Octets.{AreOctets}
 use Rattle.octets.specs.Refusals.{firstOf}
 use Rattle.distance.specs.declared.Distance.the-variants.{Unknown}
 use Rattle.distance.specs.Distances.{num}
@@ -12,33 +12,37 @@ use Rattle.sound.specs.Sound.{Channel, sound}
 use Rattle.table.specs.declared.State.{State}
 use Rattle.table.specs.declared.Answer.{Answer}
 use Rattle.table.specs.declared.Request.{Request}
-use Rattle.table.specs.Table.{Said, Call, reserve, wipe, look, tests}
-use Rattle.table.specs.Memory.{channel, read, leaves, says, returned, openRefusal, opened, openLeaves, openReturned}
+use Rattle.table.specs.Table.{Table, Call, reserve, wipe, look, tests}
+use Rattle.table.specs.Memory.{channel, read, write, leaves, says, Gives, openRefusal, opened, OpenGives}
 use Rattle.table.specs.Slots.{slotAnswer, said, asks}
-use Rattle.trace.specs.Sequences.{runs, logs, is, without, othersTold, roomy, Made}
+use Rattle.trace.specs.Machine.{runs, Refines}
+use Rattle.trace.specs.Sequences.{onOctets, Called, is, without, WithoutTrace, MadeWithoutTrace}
+use Rattle.trace.specs.Records.{Sound, onRecords}
+
+-- ---- octets and records
+
+-- a sound table over records is sound over octets, and is read back from them
+abbrev pub ReadBack : Type 0
+ReadBack = (t : Table) → Sound t → (sound (write t) ≡ true) × (read (write t) ≡ t)
+
+-- the octets of a sound table come back from its records
+abbrev pub WrittenBack : Type 0
+WrittenBack = (m : Channel) → AreOctets (m .memory) → sound m ≡ true → Sound (read m) × (write (read m) ≡ m)
+
+-- every call on the octets does what it does on the records, and says the same
+abbrev pub Refined : Type 0
+Refined = Refines onOctets onRecords write Sound
 
 -- ---- demand 3
 
--- Take any sequence of calls on one table after its one accepted opening, in which no other station's reservation was refused because
--- the table was full. Wipe station A at the end. The table's octets, clock and count (a `Channel` is all of them, with M1) are those of
--- the same sequence without A's calls. Every reserve, distance and wipe answer given to other stations is the same in both.
+-- After one accepted opening, on the table's octets, clock and count (a `Channel` is all of them, with M1).
 abbrev pub WipedWithoutTrace : Type 0
-WipedWithoutTrace =
-    (m1 : ℕ) (b : List ℕ) → openRefusal m1 b ≡ 0 → (A : ℕ) (cs : List Call)
-    → every (roomy (is A)) (logs (opened m1 b) cs) ≡ true
-    → (leaves (runs (opened m1 b) cs) (wipe A) ≡ runs (opened m1 b) (without (is A) cs))
-    × (othersTold (is A) (logs (opened m1 b) cs) ≡ othersTold (is A) (logs (opened m1 b) (without (is A) cs)))
+WipedWithoutTrace = (m1 : ℕ) (b : List ℕ) → openRefusal m1 b ≡ 0 → (A : ℕ) → WithoutTrace onOctets (opened m1 b) A
 
--- The same over real calls, of which nothing is known but what the functions promise: an opening o that leaves z; the sequence, and a wipe w
--- of A that leaves v; and, from the same opening, the sequence without A's calls.
+-- The same over real calls: an opening that returned o and left z, and calls that gave what the functions promise.
 abbrev pub RealCalls : Type 0
 RealCalls =
-    (m1 : ℕ) (b : List ℕ) (o : Answer) (z : List ℕ) → o ≡ openReturned m1 b → z ≡ openLeaves m1 b .memory → o .refusal ≡ 0
-    → (A : ℕ) (cs : List Call) (s t : State) (x y : List ℕ) (es fs : List (Call × Said))
-    → Made (o .state) z cs s x es → Made (o .state) z (without (is A) cs) t y fs
-    → (w : Answer) (v : List ℕ) → w ≡ returned (channel s x) (wipe A) → v ≡ leaves (channel s x) (wipe A) .memory
-    → every (roomy (is A)) es ≡ true
-    → (w .state ≡ t) × (v ≡ y) × (othersTold (is A) es ≡ othersTold (is A) fs)
+    (m1 : ℕ) (b : List ℕ) (o : Answer) (z : List ℕ) → OpenGives m1 b o z → o .refusal ≡ 0 → (A : ℕ) → MadeWithoutTrace Called (channel (o .state) z) A
 
 -- ---- soundness
 
@@ -54,8 +58,7 @@ SoundKept = (m : Channel) (c : Call) → sound m ≡ true → sound (leaves m c)
 abbrev pub NeverUnsound : Type 0
 NeverUnsound =
     (m1 : ℕ) (b : List ℕ) → openRefusal m1 b ≡ 0 → (cs : List Call) (c : Call)
-    → (sound (runs (opened m1 b) cs) ≡ true)
-    × (says (runs (opened m1 b) cs) c .refusal ≡ firstOf (tests (read (runs (opened m1 b) cs)) c))
+    → let m = runs onOctets (opened m1 b) cs in (sound m ≡ true) × (says m c .refusal ≡ firstOf (tests (read m) c))
 
 -- ---- refusals and results
 
@@ -67,9 +70,7 @@ RefusedChangesNothing = (m : Channel) (c : Call) → (says m c .refusal ≡ 0 �
 abbrev pub OneResult : Type 0
 OneResult =
     (s : State) (b : List ℕ) (c : Call) (r q : Answer) (x y : List ℕ)
-    → r ≡ returned (channel s b) c → x ≡ leaves (channel s b) c .memory
-    → q ≡ returned (channel s b) c → y ≡ leaves (channel s b) c .memory
-    → (r ≡ q) × (x ≡ y)
+    → Gives (channel s b) c r x → Gives (channel s b) c q y → (r ≡ q) × (x ≡ y)
 
 -- the slot state answers as the call `look` that stands for it in a sequence
 abbrev pub SlotStateLooks : Type 0
@@ -89,9 +90,12 @@ opened1 = opened 4500 (replicate 12 0)
 abbrev pub PremiseNeeded : Type 0
 PremiseNeeded =
     let cs = reserve (oneSlot 1) ∷ reserve (oneSlot 2) ∷ [] in
-    leaves (runs opened1 cs) (wipe 1) ≡ runs opened1 (without (is 1) cs) → ⊥
+    leaves (runs onOctets opened1 cs) (wipe 1) ≡ runs onOctets opened1 (without (is 1) cs) → ⊥
 
 pub record Claims : Type 0 where
+  pub read-back : ReadBack
+  pub written-back : WrittenBack
+  pub refined : Refined
   pub wiped-without-trace : WipedWithoutTrace
   pub real-calls : RealCalls
   pub sound-opened : SoundOpened

@@ -1,2 +1,4 @@
+pub mod Machine
 pub mod Sequences
+pub mod Records
 pub mod Claims

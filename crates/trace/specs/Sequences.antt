@@ -1,25 +1,35 @@
--- Sequences of calls on one table: each call gets the memory and the state that the last one left.
+-- Sequences of table calls: the table as a machine, whose calls they are, and what it is for some to leave no trace.
 use Prim.Native.Nat.{ℕ}
 use mathlib.Core.Path.{_≡_}
 use mathlib.Core.Bool.{Bool, true, false, not, _&&_}
-use mathlib.Core.List.{List, [], _∷_}
+use mathlib.Core.List.{List}
 use lib.Dec.{eqb}
-use Rattle.octets.specs.Lists.{keep}
+use Rattle.octets.specs.Lists.{keep, every}
 use Rattle.sound.specs.Sound.{Channel}
-use Rattle.table.specs.declared.State.{State}
 use Rattle.table.specs.declared.Answer.{Answer}
 use Rattle.table.specs.Table.{Said, Call, clock, reserve, distance, wipe, look}
-use Rattle.table.specs.Memory.{channel, leaves, says, returned}
+use Rattle.table.specs.Memory.{channel, leaves, says, Gives}
+use Rattle.trace.specs.Machine.{Machine, runs, logs, Made}
 
--- what a sequence leaves
-abbrev pub runs : Channel → List Call → Channel
-runs m [] = m
-runs m (c ∷ cs) = runs (leaves m c) cs
+-- ---- the table in lent memory
 
--- its calls, each with its answer
-abbrev pub logs : Channel → List Call → List (Call × Said)
-logs m [] = []
-logs m (c ∷ cs) = (c, says m c) ∷ logs (leaves m c) cs
+-- each call gets the memory and the state that the last one left
+abbrev pub onOctets : Machine Channel Call Said
+onOctets = record { leaves = leaves; says = says }
+
+-- the answer in what a function returns
+abbrev pub saidBy : Answer → Said
+saidBy r = record { refusal = r .refusal; number = r .number }
+
+-- A real call: the function returned and left what it promises, and no more is known. It said what the result says, and left the
+-- state in the result with the octets. (A slot state or a search is lent memory that it cannot change, and returns no state: here it
+-- hands back the one it was given.)
+pub record Called (m : Channel) (c : Call) (w : Said) (n : Channel) : Type 0 where
+  pub result : Answer
+  pub octets : List ℕ
+  pub promised : Gives m c result octets
+  pub said : w ≡ saidBy result
+  pub left : n ≡ channel (result .state) octets
 
 -- ---- whose calls they are
 
@@ -59,17 +69,21 @@ othersTold gone es = keep (λ e. names (others gone) (e .0)) es
 abbrev pub roomy : (ℕ → Bool) → Call × Said → Bool
 roomy gone e = not (isReserve (e .0) && names (others gone) (e .0) && eqb (e .1 .refusal) 17)
 
--- ---- the same of real calls
+-- ---- no trace, of any machine that takes these calls
 
--- the answer in what a function returns
-abbrev pub saidBy : Answer → Said
-saidBy r = record { refusal = r .refusal; number = r .number }
+-- Take any sequence of calls from s on in which no other station's reservation was refused because the table was full. Wipe station A at
+-- the end. All is left as by the same sequence without A's calls. Every reserve, distance and wipe answer given to other stations is the
+-- same in both.
+abbrev pub WithoutTrace : {S : Type 0} → Machine S Call Said → S → ℕ → Type 0
+WithoutTrace k s A =
+    (cs : List Call) → every (roomy (is A)) (logs k s cs) ≡ true
+    → (k .leaves (runs k s cs) (wipe A) ≡ runs k s (without (is A) cs))
+    × (othersTold (is A) (logs k s cs) ≡ othersTold (is A) (logs k s (without (is A) cs)))
 
--- `Made s b cs t d es`: the calls cs, made on the state s and the octets b, ended at t and d with the answers es.
--- The first two premises of `made` are what the functions promise, word for word: their result and the memory at exit.
--- (A slot state or a search is lent memory that it cannot change, and returns no state: here it hands back the one it was given.)
-pub data Made : State → List ℕ → List Call → State → List ℕ → List (Call × Said) → Type 0 where
-  none : {s : State} {b : List ℕ} → Made s b [] s b []
-  made : {s t : State} {b x d : List ℕ} {c : Call} {cs : List Call} {r : Answer} {es : List (Call × Said)}
-      → r ≡ returned (channel s b) c → x ≡ leaves (channel s b) c .memory → Made (r .state) x cs t d es
-      → Made s b (c ∷ cs) t d ((c, saidBy r) ∷ es)
+-- The same of real calls, of which nothing is known but a promise: the sequence, and then a wipe of A that leaves v; and, from the same
+-- state, the sequence without A's calls.
+abbrev pub MadeWithoutTrace : {S : Type 0} → (S → Call → Said → S → Type 0) → S → ℕ → Type 0
+MadeWithoutTrace {S} P s A =
+    (cs : List Call) (t u v : S) (es fs : List (Call × Said)) (w : Said) → Made P s cs t es → P t (wipe A) w v → Made P s (without (is A) cs) u fs
+    → every (roomy (is A)) es ≡ true
+    → (v ≡ u) × (othersTold (is A) es ≡ othersTold (is A) fs)

@@ -35,7 +35,7 @@ over-c-requires : tie.Need-over-c-requires
 over-c-requires c κs =
     let x = c .before .before .before .before in
     let k = c .before .before .distance in
-    returned-most (k .result) (given x) (call x (x .distance-of .result)) (k .ensures .0) refl
+    returned-most (k .result) (given x) (call x (x .distance-of .result)) (k .ensures .result) refl
 
 same-length : tie.Need-same-length
 same-length c = search needs
@@ -46,9 +46,9 @@ returns c =
     let k = c .before .before .before .distance in
     let e = x .distance-of .ensures in (
       c .over-c .ensures
-          ∙ returned-called (k .result) (given x) (call x (x .distance-of .result)) (k .ensures .0)
+          ∙ returned-called (k .result) (given x) (call x (x .distance-of .result)) (k .ensures .result)
           ∙ ap (λ d. called (given x) (call x d)) e,
-      k .ensures .1 ∙ ap (λ d. leaves (given x) (call x d) .memory) e,
+      k .ensures .octets ∙ ap (λ d. leaves (given x) (call x d) .memory) e,
     )
 
 pub gemthatch-distance-spec : {M : Type 1} → statement M

@@ -16,7 +16,7 @@ over-c-requires : tie.Need-over-c-requires
 unfolding openReturned
 over-c-requires c κs =
     let a = c .before .before .before .before .before .args in
-    rw (c .before .before .«open» .ensures .0) (open-most (a .m1) (now (a .memory)))
+    rw (c .before .before .«open» .ensures .result) (open-most (a .m1) (now (a .memory)))
 
 same-length : tie.Need-same-length
 same-length c = search needs
@@ -25,7 +25,7 @@ returns : tie.Need-returns
 unfolding openReturned
 returns c =
     let o = c .before .before .before .«open» in
-    (c .over-c .ensures ∙ ap (λ (x : Answer). overC (x .refusal) (x .number)) (o .ensures .0), o .ensures .1)
+    (c .over-c .ensures ∙ ap (λ (x : Answer). overC (x .refusal) (x .number)) (o .ensures .result), o .ensures .octets)
 
 pub gemthatch-open-spec : {M : Type 1} → statement M
 gemthatch-open-spec = tie.close (tie.spec open-requires over-c-requires same-length returns)

@@ -1,4 +1,5 @@
 -- `trace::claims` promises what the laws prove. Assumes nothing.
+use Rattle.trace.proofs.Written.{read-back, written-back, refined}
 use Rattle.trace.proofs.Demand3.{wiped-without-trace, real-calls, sound-opened, sound-kept, never-unsound, refused-changes-nothing, one-result}
 use Rattle.trace.proofs.Looks.{slot-state-looks}
 use Rattle.trace.proofs.Premise.{premise-needed}
@@ -8,6 +9,9 @@ use Rattle.trace.proofs.claims.Tie as tie
 returns : tie.Need-returns
 returns c =
     record {
+      read-back = read-back;
+      written-back = written-back;
+      refined = refined;
       wiped-without-trace = wiped-without-trace;
       real-calls = real-calls;
       sound-opened = sound-opened;

@@ -41,7 +41,7 @@ unfolding read
 returns c =
     let t = c .before .before .before in
     let g = tested-gives (given (t .before)) (call (t .before)) (is-sound t) 12 (rw (lt-ltb _ _ (c .before .if2 .taken))) (omega arith) in
-    (c .refuse .ensures ∙ g .0, g .1)
+    record { result = c .refuse .ensures ∙ g .result; octets = g .octets }
 
 refuse-requires-2 : tie.Need-refuse-requires-2
 refuse-requires-2 c κs = search needs
@@ -54,7 +54,7 @@ unfolding read
 returns-2 c =
     let t = c .before .before .before .before in
     let g = tested-gives (given (t .before)) (call (t .before)) (is-sound t) 13 (rw (le-ltb _ _ (c .before .before .if2 .left), lt-ltb _ _ (c .before .if3 .taken))) (omega arith) in
-    (c .refuse2 .ensures ∙ g .0, g .1)
+    record { result = c .refuse2 .ensures ∙ g .result; octets = g .octets }
 
 sweep-requires : tie.Need-sweep-requires
 sweep-requires c κs = is-sound (c .before .before .before .before)
@@ -72,7 +72,7 @@ returns-3 c =
     let live = lasts (given (t .before) .m1) slot in
     let sweep = c .before .before .sweep in
     let g = sweep-gives (given (t .before)) (call (t .before)) (is-sound t) (rw (le-ltb _ _ (at-if2 .if2 .left), le-ltb _ _ (at-if3 .if3 .left))) refl slot live (λ (r : Rec). not (live r)) (λ r. refl) refl refl in
-    (sweep .ensures .0 ∙ g .0, sweep .ensures .1 ∙ g .1)
+    record { result = sweep .ensures .0 ∙ g .result; octets = sweep .ensures .1 ∙ g .octets }
 
 refuse-requires-3 : tie.Need-refuse-requires-3
 refuse-requires-3 c κs = search needs
@@ -84,7 +84,7 @@ returns-4 : tie.Need-returns-4
 returns-4 c =
     let a = c .before .before in
     let g = unsound-gives (given a) (call a) (sym (a .is-sound .ensures) ∙ c .before .if1 .left) in
-    (c .refuse3 .ensures ∙ g .0, g .1)
+    record { result = c .refuse3 .ensures ∙ g .result; octets = g .octets }
 
 pub clock-spec : {M : Type 1} → statement M
 clock-spec =

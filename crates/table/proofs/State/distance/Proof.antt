@@ -46,7 +46,7 @@ returns : tie.Need-returns
 returns c =
     let t = c .before .before in
     let g = tested-gives (given (t .before)) (call (t .before)) (is-sound t) 8 (rw (le-leb _ _ (c .before .if2 .taken))) (omega arith) in
-    (c .refuse .ensures ∙ g .0, g .1)
+    record { result = c .refuse .ensures ∙ g .result; octets = g .octets }
 
 limit-fits-requires : tie.Need-limit-fits-requires
 limit-fits-requires c κs = search needs
@@ -84,7 +84,7 @@ returns-2 c =
     let g = accepted-gives m (call (t .before)) (sym (refusal-sound m (call (t .before)) (is-sound t) ∙ rw (lt-leb _ _ (at-if2 .if2 .left), fit))) refl in
     let mark = c .before .before .mark-all in
     let w = packed-mapped m (setFar (at-slice .before .args .station) (at-far-bit .far-bit .result)) (mark .last .0) k (λ i. at-slice .slice-known .given i .fits) (λ i. c .slice-known2 .given i .fits) (mark .kept .0) (mark .ensures .1) in
-    (rw (mark .ensures .0, ← g .0, length-map, k .counted), w ∙ rw (at-far-bit .far-bit .ensures) (g .1))
+    record { result = rw (mark .ensures .0, ← g .result, length-map, k .counted); octets = w ∙ rw (at-far-bit .far-bit .ensures) (g .octets) }
 
 refuse-requires-2 : tie.Need-refuse-requires-2
 refuse-requires-2 c κs = search needs
@@ -97,7 +97,7 @@ returns-3 c =
     let t = c .before .before .before .before in
     let fit = sym (c .before .before .limit-fits .ensures) ∙ c .before .if3 .left in
     let g = tested-gives (given (t .before)) (call (t .before)) (is-sound t) 18 (rw (lt-leb _ _ (c .before .before .before .if2 .left), fit)) (omega arith) in
-    (c .refuse2 .ensures ∙ g .0, g .1)
+    record { result = c .refuse2 .ensures ∙ g .result; octets = g .octets }
 
 refuse-requires-3 : tie.Need-refuse-requires-3
 refuse-requires-3 c κs = search needs
@@ -109,7 +109,7 @@ returns-4 : tie.Need-returns-4
 returns-4 c =
     let a = c .before .before in
     let g = unsound-gives (given a) (call a) (sym (a .is-sound .ensures) ∙ c .before .if1 .left) in
-    (c .refuse3 .ensures ∙ g .0, g .1)
+    record { result = c .refuse3 .ensures ∙ g .result; octets = g .octets }
 
 pub distance-spec : {M : Type 1} → statement M
 distance-spec =

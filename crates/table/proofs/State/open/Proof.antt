@@ -39,7 +39,7 @@ returns c =
     let f : Parameters.fits 1 (start .args .m1) ≡ true = sym (at-m1-fits .m1-fits .ensures) ∙ at-if1 .if1 .taken in
     let z : sizeFits m ≡ true = sym (at-size-fits .size-fits .ensures) ∙ at-if2 .if2 .taken in
     let l : length m - 0 ≡ length m = omega arith in
-    (rw (f, z), c .before .before .clear .ensures ∙ rw (f, z, zero-mul size, l))
+    record { result = rw (f, z); octets = c .before .before .clear .ensures ∙ rw (f, z, zero-mul size, l) }
 
 refuse-requires : tie.Need-refuse-requires
 refuse-requires c κs = search needs
@@ -55,7 +55,7 @@ returns-2 c =
     let start = at-m1-fits .before .before in
     let f : Parameters.fits 1 (start .args .m1) ≡ true = sym (at-m1-fits .m1-fits .ensures) ∙ at-if1 .if1 .taken in
     let z : sizeFits (now (start .args .memory)) ≡ false = sym (c .before .before .size-fits .ensures) ∙ c .before .if2 .left in
-    (c .refuse .ensures ∙ rw (f, z), rw (f, z))
+    record { result = c .refuse .ensures ∙ rw (f, z); octets = rw (f, z) }
 
 refuse-requires-2 : tie.Need-refuse-requires-2
 refuse-requires-2 c κs = search needs
@@ -65,7 +65,7 @@ unfolding openRefusal openLeaves openReturned answer
 returns-3 c =
     let start = c .before .before .before .before in
     let f : Parameters.fits 1 (start .args .m1) ≡ false = sym (c .before .before .m1-fits .ensures) ∙ c .before .if1 .left in
-    (c .refuse2 .ensures ∙ rw f, rw f)
+    record { result = c .refuse2 .ensures ∙ rw f; octets = rw f }
 
 pub open-spec : {M : Type 1} → statement M
 open-spec =

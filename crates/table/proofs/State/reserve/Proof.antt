@@ -73,7 +73,7 @@ returns c =
     let far = at-far-bit .far-bit .ensures in
     let add = c .before .before .add in
     let g = request-added (given (t .before)) (request (t .before)) (is-sound t) (is-passed at-if2) in
-    (add .ensures .0 ∙ rw far (g .0), add .ensures .1 ∙ rw far (g .1))
+    record { result = add .ensures .0 ∙ rw far (g .result); octets = add .ensures .1 ∙ rw far (g .octets) }
 
 refuse-requires : tie.Need-refuse-requires
 refuse-requires c κs = search needs
@@ -86,7 +86,7 @@ returns-2 c =
     let t = c .before .before .before in
     let e = c .before .before .judge-request .ensures in
     let g = request-refused (given (t .before)) (request (t .before)) (is-sound t) (λ z. c .before .if2 .left (e ∙ z)) in
-    (c .refuse .ensures ∙ rw e (g .0), g .1)
+    record { result = c .refuse .ensures ∙ rw e (g .result); octets = g .octets }
 
 refuse-requires-2 : tie.Need-refuse-requires-2
 refuse-requires-2 c κs = search needs
@@ -98,7 +98,7 @@ returns-3 : tie.Need-returns-3
 returns-3 c =
     let a = c .before .before in
     let g = unsound-gives (given a) (reserve (request a)) (sym (a .is-sound .ensures) ∙ c .before .if1 .left) in
-    (c .refuse2 .ensures ∙ g .0, g .1)
+    record { result = c .refuse2 .ensures ∙ g .result; octets = g .octets }
 
 pub reserve-spec : {M : Type 1} → statement M
 reserve-spec =

@@ -44,7 +44,7 @@ returns : tie.Need-returns
 returns c =
     let t = c .before .before in
     let g = tested-gives (given (t .before)) (call (t .before)) (is-sound t) 8 (rw (le-leb _ _ (c .before .if2 .taken))) (omega arith) in
-    (c .refuse .ensures ∙ g .0, g .1)
+    record { result = c .refuse .ensures ∙ g .result; octets = g .octets }
 
 sweep-requires : tie.Need-sweep-requires
 sweep-requires c κs = is-sound (c .before .before)
@@ -63,10 +63,11 @@ returns-2 c =
     let at-zero : Rec → Bool = λ r. other r && lasts (m .m1) 0 r in
     let e : at-zero ≡ other = fun-ext (λ r. rw (le-leb 0 (lastSlot (m .m1) r) zero-le) (and-true (other r))) in
     let sweep = c .before .before .sweep in
-    let g = sweep-gives m (call (t .before)) (is-sound t) (rw (lt-leb _ _ (at-if2 .if2 .left))) refl (m .now) other (of station) (λ (r : Rec). sym (Bool·not-not (of station r))) refl refl in (
-      sweep .ensures .0 ∙ ap (swept m (m .now)) e ∙ g .0,
-      sweep .ensures .1 ∙ ap (λ (p : Rec → Bool). packed (capacity (m .memory)) (keep p (records m))) e ∙ g .1,
-    )
+    let g = sweep-gives m (call (t .before)) (is-sound t) (rw (lt-leb _ _ (at-if2 .if2 .left))) refl (m .now) other (of station) (λ (r : Rec). sym (Bool·not-not (of station r))) refl refl in
+    record {
+      result = sweep .ensures .0 ∙ ap (swept m (m .now)) e ∙ g .result;
+      octets = sweep .ensures .1 ∙ ap (λ (p : Rec → Bool). packed (capacity (m .memory)) (keep p (records m))) e ∙ g .octets;
+    }
 
 refuse-requires-2 : tie.Need-refuse-requires-2
 refuse-requires-2 c κs = search needs
@@ -78,7 +79,7 @@ returns-3 : tie.Need-returns-3
 returns-3 c =
     let a = c .before .before in
     let g = unsound-gives (given a) (call a) (sym (a .is-sound .ensures) ∙ c .before .if1 .left) in
-    (c .refuse2 .ensures ∙ g .0, g .1)
+    record { result = c .refuse2 .ensures ∙ g .result; octets = g .octets }
 
 pub wipe-spec : {M : Type 1} → statement M
 wipe-spec =
