@@ -6,7 +6,6 @@ use lib.Ieee.{ofInt, neg, add, mul, le}
 use Rattle.octets.specs.Refusals.{firstOf, answer}
 use Rattle.codec.specs.NineOctets.{fieldTests, readTests}
 use Rattle.distance.specs.declared.Distance.{Distance}
-use Rattle.record.specs.Record.{size, capacity}
 use Rattle.series.specs.Series.{someBelow, inBlock, reserves, lastSlot}
 use Rattle.sound.specs.Sound.{records, lasts}
 use Rattle.table.specs.Table.{Table, clock}
@@ -15,7 +14,7 @@ use Rattle.table.specs.Slots.{stateBy, slotState, slotAnswer, slotOn}
 use Rattle.trace.specs.Machine.{runs}
 use Rattle.trace.specs.Records.{Sound, after, onRecords}
 use Rattle.trace.proofs.Machine.{runs-good}
-use Rattle.trace.proofs.Written.{records-write, leaves-records, refined, empty, sound-empty, opened-runs, lent, lent-accepted}
+use Rattle.trace.proofs.Written.{records-write, leaves-records, refined, empty, sound-lent, lent-runs}
 use Rattle.trace.proofs.Looks.{slot-write}
 use Rattle.search.specs.declared.Query.{Query}
 use Rattle.search.specs.Search.{level0, level1, qualifying, listed, statesOf, tests, refusal, found}
@@ -27,14 +26,14 @@ use Rattle.marked.proofs.Searches.{refusal-write, found-write}
 module _ (d : Distance) where
   -- the table that holds T
   abbrev held : Table
-  held = runs onRecords (empty 4500 lent) (callsT d)
+  held = runs onRecords (empty 4500 1) (callsT d)
 
   sound-held : Sound held
-  sound-held = runs-good refined (empty 4500 lent) (callsT d) (sound-empty 4500 lent lent-accepted)
+  sound-held = runs-good refined (empty 4500 1) (callsT d) sound-lent
 
   -- the octets are its
   written : tableT d ≡ write held
-  written = opened-runs 4500 lent lent-accepted (callsT d)
+  written = lent-runs (callsT d)
 
   -- ---- what is asked of it
 
@@ -56,7 +55,7 @@ module _ (d : Distance) where
 -- ---- the cases
 
 pub marked : Marked
-unfolding answer readTests fieldTests ofInt neg add mul le after capacity size lasts lastSlot slotState stateBy reserves someBelow inBlock level0 level1 qualifying listed
+unfolding answer readTests fieldTests ofInt neg add mul le after lasts lastSlot slotState stateBy reserves someBelow inBlock level0 level1 qualifying listed
 marked =
     record {
       p1 = refl;

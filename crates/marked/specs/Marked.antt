@@ -4,12 +4,12 @@ use mathlib.Core.Path.{_≡_}
 use mathlib.Core.Bool.{true, false}
 use mathlib.Core.List.{List, [], _∷_, map}
 use lib.IntN.{ℤ, pos, negsuc}
-use lib.ListN.{replicate}
 use Rattle.codec.specs.declared.Reading.{Reading}
 use Rattle.codec.specs.NineOctets.{reading, refusedReading}
 use Rattle.distance.specs.declared.Distance.{Distance}
 use Rattle.distance.specs.declared.Distance.the-variants.{Unknown, Range}
 use Rattle.distance.specs.Distances.{num, isFar, offset}
+use Rattle.record.specs.Record.{packed}
 use Rattle.series.specs.Series.{lastSlot}
 use Rattle.sound.specs.Sound.{Channel, records}
 use Rattle.table.specs.declared.Slot.the-variants.{Free, Taken}
@@ -35,7 +35,7 @@ callsT d =
 
 -- T, alone in its table: M1 4500, and room for one record
 abbrev pub tableT : Distance → Channel
-tableT d = runs onOctets (opened 4500 (replicate 12 0)) (callsT d)
+tableT d = runs onOctets (opened 4500 (packed 1 [])) (callsT d)
 
 -- T near
 abbrev pub near : Channel

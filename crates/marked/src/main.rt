@@ -131,7 +131,7 @@ fn put_slots(s: State, memory: &[u8]) {
 }
 
 // Whether T is there after a clock, which is made on a copy of its table.
-fn put_kept(s: State, memory: [u8; 12], slot: u32) {
+fn put_kept(s: State, memory: [u8; record::SIZE], slot: u32) {
     let mut left = memory;
     if s.clock(&mut left, slot).state.count == 1 {
         put(b" kept");
@@ -140,7 +140,7 @@ fn put_kept(s: State, memory: [u8; 12], slot: u32) {
     }
 }
 
-fn put_clocks(s: State, memory: [u8; 12]) {
+fn put_clocks(s: State, memory: [u8; record::SIZE]) {
     put(b"P7");
     put_kept(s, memory, 7609);
     put_kept(s, memory, 7610);
@@ -167,8 +167,8 @@ fn put_search(name: &[u8], s: State, memory: &[u8], lo: u32, hi: u32) {
 }
 
 fn put_t() {
-    let mut near_memory = [0u8; 12];
-    let mut far_memory = [0u8; 12];
+    let mut near_memory = [0u8; record::SIZE];
+    let mut far_memory = [0u8; record::SIZE];
     let near = reserve_t(&mut near_memory, Distance::Unknown);
     let far = reserve_t(&mut far_memory, Distance::Range(LIMIT));
     put_last_slot(near, &near_memory);
@@ -260,7 +260,7 @@ fn put_blocks(s: State, memory: &[u8], from: u32, to: u32) -> u32 {
 
 // Where M1 is no multiple of the rate R, j*M1/R differs from j*(M1/R).
 fn put_spacing(name: &[u8], m1: u32, rate: u32) {
-    let mut memory = [0u8; 12];
+    let mut memory = [0u8; record::SIZE];
     let s = reserve_alone(&mut memory, m1, 0, request_blocks(rate, 2, 1));
     put(name);
     put_blocks(s, &memory, 0, m1);
@@ -282,7 +282,7 @@ fn put_near_and_far() {
 }
 
 fn put_example() {
-    let mut memory = [0u8; 12];
+    let mut memory = [0u8; record::SIZE];
     let s = reserve_alone(&mut memory, 4500, 90, request_blocks(3, 10, 10));
     put(b"000's three blocks of ten slots:");
     let held = put_blocks(s, &memory, 90, 4590);

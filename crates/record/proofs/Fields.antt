@@ -1,5 +1,5 @@
 -- Laws of one record's octets: `littles` and `numbers` undo each other at any widths, and so do `encode` and `decode`. Assumes nothing.
-use Prim.Native.Nat.{ℕ, _+_, _≤_}
+use Prim.Native.Nat.{ℕ, _+_, _^_, _<_, _≤_}
 use mathlib.Core.Path.{_≡_, refl, sym, ap, _∙_}
 use mathlib.Core.List.{List, [], _∷_, _++_, append-assoc}
 use native.Mathlib.Omega.{arith}
@@ -82,3 +82,10 @@ decode-take m after h =
     let l : total widths ≤ length (take size m) = unfold total in simp length-take (omega arith) in
     let e = numbers-append widths (take size m) in
     ap made (e after l ∙ sym (e (drop size m) l) ∙ ap (numbers widths) (take-append-drop size m))
+
+-- ---- FitRec
+
+-- a record fits by its numbers
+pub fit-rec : (r : Rec) → r .station < 2 ^ 32 → r .first < 2 ^ 32 → r .rate < 256 → r .superframes < 256 → r .length < 256 → r .far < 256 → FitRec r
+unfolding fields
+fit-rec r station first rate superframes length far = omega arith

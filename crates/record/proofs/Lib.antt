@@ -3,3 +3,4 @@ pub mod Fields
 pub mod Views
 pub mod Places
 pub mod ToCome
+pub mod Packed

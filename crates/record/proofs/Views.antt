@@ -22,6 +22,11 @@ pub capacity-fits : (m : List ℕ) → capacity m * size ≤ length m
 unfolding capacity
 capacity-fits m = div-mul-le-self (length m) size
 
+-- and no more than octets
+pub capacity-most : (m : List ℕ) → capacity m ≤ length m
+unfolding capacity size
+capacity-most m = omega arith
+
 -- the length alone gives the capacity
 pub same-capacity : (a b : List ℕ) → length a ≡ length b → capacity a ≡ capacity b
 unfolding capacity
@@ -29,7 +34,7 @@ same-capacity a b e = rw e
 
 -- the capacity gives the length, where it is of whole records
 pub whole-length : (m : List ℕ) → whole m ≡ true → length m ≡ capacity m * size
-unfolding capacity size
+unfolding whole capacity size
 whole-length m h = omega (arith, eqb-true (length m % size) 0 h)
 
 -- ---- image

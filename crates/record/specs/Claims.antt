@@ -1,12 +1,12 @@
 -- What is claimed of records in memory, besides each function's promise. `claims` in src/lib.rt promises all of it.
-use Prim.Native.Nat.{ℕ, _*_}
+use Prim.Native.Nat.{ℕ, _*_, _≤_}
 use mathlib.Core.Path.{_≡_}
 use mathlib.Core.Bool.{true}
 use mathlib.Core.List.{List, [], _∷_}
-use lib.ListN.{length as len}
-use Rattle.octets.specs.Octets.{AreOctets}
+use lib.ListN.{length as len, take}
+use Rattle.octets.specs.Octets.{AreOctets, zeros}
 use Rattle.record.specs.declared.Rec.{Rec}
-use Rattle.record.specs.Record.{encode, AllFit, image, whole, view}
+use Rattle.record.specs.Record.{encode, AllFit, image, whole, capacity, rest, packed, view}
 
 -- the octets of one record, in 01's order and little-endian: that records come back does not tell
 abbrev pub OneRecord : Type 0
@@ -22,3 +22,14 @@ pub record Claims : Type 0 where
   -- 12 octets for each record, and no others
   pub written-length : (rs : List Rec) → len (image rs) ≡ len rs * 12
   pub one-record : OneRecord
+  -- a packed memory has its capacity, its records, and nothing after them
+  pub packed-is-read :
+      (cap : ℕ) (rs : List Rec) → AllFit rs → len rs ≤ cap
+      → (whole (packed cap rs) ≡ true)
+      × (capacity (packed cap rs) ≡ cap)
+      × (take (len rs) (view (packed cap rs)) ≡ rs)
+      × (zeros (rest (len rs) (packed cap rs)) ≡ true)
+  -- a memory with nothing after its first n records is packed
+  pub read-is-packed :
+      (m : List ℕ) (n : ℕ) → AreOctets m → whole m ≡ true → n ≤ capacity m → zeros (rest n m) ≡ true
+      → packed (capacity m) (take n (view m)) ≡ m

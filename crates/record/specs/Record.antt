@@ -1,11 +1,11 @@
 -- How records lie in the lent memory: the octets of one, of a list, and the records that a memory has room for.
-use Prim.Native.Nat.{ℕ, zero, suc, _*_, _/_, _%_, _^_, _<_}
+use Prim.Native.Nat.{ℕ, zero, suc, _-_, _*_, _/_, _%_, _^_, _<_}
 use mathlib.Core.Bool.{Bool, cond}
 use mathlib.Core.List.{List, [], _∷_, _++_}
 use lib.Dec.{ltb, eqb}
-use lib.ListN.{length as len, getD, take, drop}
+use lib.ListN.{length as len, getD, take, drop, replicate}
 use lib.Seq.{sets}
-use Rattle.octets.specs.Octets.{little, number}
+use Rattle.octets.specs.Octets.{little, number, zeroFrom}
 use Rattle.record.specs.declared.Rec.{Rec}
 
 -- ---- one record
@@ -75,7 +75,7 @@ image [] = []
 image (r ∷ rs) = encode r ++ image rs
 
 -- a memory is a whole number of records
-abbrev pub whole : List ℕ → Bool
+unfoldable pub whole : List ℕ → Bool
 whole m = eqb (len m % size) 0
 
 -- the capacity: how many records a memory has room for
@@ -83,8 +83,16 @@ unfoldable pub capacity : List ℕ → ℕ
 capacity m = len m / size
 
 -- the octets after the first n records
-abbrev pub rest : ℕ → List ℕ → List ℕ
+unfoldable pub rest : ℕ → List ℕ → List ℕ
 rest n m = drop (n * size) m
+
+-- a memory with the octets after the first n records made 0
+unfoldable pub clearAfter : ℕ → List ℕ → List ℕ
+clearAfter n m = zeroFrom (n * size) m
+
+-- the memory of a capacity that holds these records only: their octets, then zeros
+unfoldable pub packed : ℕ → List Rec → List ℕ
+packed cap rs = image rs ++ replicate ((cap - len rs) * size) 0
 
 -- the first n records of a memory
 unfoldable pub views : ℕ → List ℕ → List Rec

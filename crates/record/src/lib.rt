@@ -2,12 +2,12 @@
 ghost use mathlib.Core.Path.{_≡_};
 ghost use Prim.Native.Nat.{_+_, _*_, _≤_, min};
 ghost use lib.ListN.{length, getD, set, take};
-ghost use Rattle.octets.specs.Octets.{zeros, zeroFrom};
-ghost use Rattle.record.specs.Record.{size, blank, whole, capacity, rest, view, put};
+ghost use Rattle.octets.specs.Octets.{zeros};
+ghost use Rattle.record.specs.Record.{blank, whole, capacity, rest, clearAfter, view, put};
 ghost use Rattle.record.specs.Claims.{Claims};
 
 // The octets of a record.
-const SIZE: usize = 12;
+pub const SIZE: usize = 12;
 
 // A record of the table. It is laid out as in C: it crosses to a C host as it is.
 #[repr(C)]
@@ -96,7 +96,7 @@ pub fn is_clear(memory: &[u8], n: usize) -> bool
 
 // Makes every octet after the first n records 0. Where n is above the capacity there is none.
 pub fn clear(memory: &mut [u8], n: usize)
-    ensures { λ _. ⌜ now (memory .exit) ≡ zeroFrom (n * size) (now (memory .entry)) ⌝ }
+    ensures { λ _. ⌜ now (memory .exit) ≡ clearAfter n (now (memory .entry)) ⌝ }
 {
     if n <= memory.len() / SIZE {
         octets::clear_from(memory, n * SIZE);

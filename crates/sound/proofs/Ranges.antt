@@ -1,10 +1,15 @@
--- What the ranges of a record say of its numbers. Assumes nothing.
+-- What the ranges of a record say of its numbers: each one, and that they fit their octets. Assumes nothing.
 use Prim.Native.Nat.{_^_, _<_, _≤_}
+use native.Mathlib.Omega.{arith}
 use mathlib.Core.Path.{_≡_}
 use mathlib.Core.Bool.{true, and-eq-true-iff}
+use mathlib.Core.List.{List, [], _∷_}
 use borrow.Author.Tests.{ltb-true, leb-true}
+use Rattle.octets.specs.Lists.{every}
 use Rattle.octets.proofs.Refusals.{within-true}
+use Rattle.record.specs.Record.{FitRec, AllFit}
 use Rattle.record.specs.declared.Rec.{Rec}
+use Rattle.record.proofs.Fields.{fit-rec}
 use Rattle.sound.specs.Sound.{inRange}
 
 -- the ranges, one by one
@@ -29,3 +34,18 @@ ranges r h =
       length = within-true 1 32 (r .length) (p .0 .1);
       far = leb-true (r .far) 1 (p .1);
     }
+
+-- ---- octets
+
+-- a record in range fits its octets
+pub fit : (r : Rec) → inRange r ≡ true → FitRec r
+fit r h =
+    let k = ranges r h in
+    fit-rec r (omega arith) (omega arith) (omega arith) (omega arith) (omega arith) (omega arith)
+
+-- records in range fit theirs
+pub all-fit : (rs : List Rec) → every inRange rs ≡ true → AllFit rs
+all-fit [] h = tt
+all-fit (r ∷ rs) h =
+    let p = and-eq-true-iff (inRange r) (every inRange rs) .0 h in
+    (fit r (p .0), all-fit rs (p .1))

@@ -1,20 +1,18 @@
 -- What soundness says, part by part. Assumes nothing.
-use Prim.Native.Nat.{ℕ, _-_, _*_, _%_, _≤_}
-use native.Mathlib.Omega.{arith}
+use Prim.Native.Nat.{_-_, _%_, _≤_}
 use mathlib.Core.Path.{_≡_}
 use mathlib.Core.Bool.{true, _&&_, and-eq-true-iff}
 use lib.Dec.{eqb}
-use lib.ListN.{length, replicate, length-drop}
+use lib.ListN.{length}
 use lib.Seq.{length-take-le}
 use borrow.Author.Tests.{leb-true}
 use Rattle.octets.specs.Lists.{every}
 use Rattle.octets.specs.Refusals.{within}
 use Rattle.octets.specs.Octets.{zeros}
 use Rattle.octets.proofs.Refusals.{within-true}
-use Rattle.octets.proofs.Zeros.{zeros-true}
 use Rattle.codec.specs.Parameters as Parameters
-use Rattle.record.specs.Record.{size, capacity, whole, rest, view}
-use Rattle.record.proofs.Views.{whole-length, length-view}
+use Rattle.record.specs.Record.{capacity, whole, rest, view}
+use Rattle.record.proofs.Views.{length-view}
 use Rattle.sound.specs.Sound.{Channel, records, numbersFit, good, sound}
 
 -- what holds of a sound table
@@ -26,13 +24,8 @@ pub record Held (m : Channel) : Type 0 where
   pub room : m .count ≤ capacity (m .memory)
   pub counted : length (records m) ≡ m .count
   pub all-good : every (good (m .m1) (m .now)) (records m) ≡ true
-  pub whole-records : length (m .memory) ≡ capacity (m .memory) * size
-  pub tail : rest (m .count) (m .memory) ≡ replicate ((capacity (m .memory) - m .count) * size) 0
-
--- the octets after k records
-pub tail-length : (n cap k : ℕ) → n ≡ cap * size → n - k * size ≡ (cap - k) * size
-unfolding size
-tail-length n cap k e = omega arith
+  pub whole-records : whole (m .memory) ≡ true
+  pub clear : zeros (rest (m .count) (m .memory)) ≡ true
 
 -- there are as many records as the count says
 count-records : (m : Channel) → m .count ≤ capacity (m .memory) → length (records m) ≡ m .count
@@ -68,7 +61,6 @@ held m h =
     let s = and-eq-true-iff (numbersFit m && every (good (m .m1) (m .now)) (records m)) (zeros (rest (m .count) b)) .0 h in
     let g = and-eq-true-iff (numbersFit m) (every (good (m .m1) (m .now)) (records m)) .0 (s .0) in
     let n = numbers-fit m (g .0) in
-    let w = whole-length b (n .0) in
     record {
       capacity-fits = n .1;
       capacity-most = within-true 1 2048 (capacity b) (n .1) .1;
@@ -77,6 +69,6 @@ held m h =
       room = n .4;
       counted = count-records m (n .4);
       all-good = g .1;
-      whole-records = w;
-      tail = rw (length-drop, tail-length (length b) (capacity b) (m .count) w) at (zeros-true (rest (m .count) b) (s .1));
+      whole-records = n .0;
+      clear = s .1;
     }

@@ -11,13 +11,13 @@ use Rattle.octets.specs.Lists.{keep}
 use Rattle.octets.specs.Refusals.{firstOf, outside}
 use Rattle.octets.proofs.Lists.{length-keep-not}
 use Rattle.octets.proofs.Refusals.{firstOf-append, firstOf-stop, firstOf-zero, outside-false, or-eq-false, answer-refused, answer-accepted}
-use Rattle.record.specs.Record.{capacity}
+use Rattle.record.specs.Record.{capacity, packed}
 use Rattle.record.specs.declared.Rec.{Rec}
 use Rattle.sound.specs.Sound.{Channel, records, sound}
 use Rattle.sound.proofs.Sound.{held}
 use Rattle.table.specs.declared.Request.{Request}
 use Rattle.table.specs.Table.{Call, clock, reserve, distance, wipe, look, asked, requestTests, placeTests, tests, changed, reported, isLook}
-use Rattle.table.specs.Memory.{stateOf, read, packed, write, refusal, leaves, says, returned, Gives}
+use Rattle.table.specs.Memory.{stateOf, read, write, refusal, leaves, says, returned, Gives}
 use Rattle.table.specs.Steps.{refused, swept, added, addedMemory}
 
 -- ---- which refusal

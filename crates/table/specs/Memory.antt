@@ -1,13 +1,12 @@
 -- The table in lent memory with the state beside it: what each call answers and leaves.
-use Prim.Native.Nat.{ℕ, _-_, _*_}
+use Prim.Native.Nat.{ℕ}
 use mathlib.Core.Path.{_≡_}
 use mathlib.Core.Bool.{not}
-use mathlib.Core.List.{List, [], _∷_, _++_}
+use mathlib.Core.List.{List, [], _∷_}
 use lib.ListN.{length as len, replicate}
 use Rattle.octets.specs.Refusals.{firstOf, answer}
 use Rattle.codec.specs.Parameters as Parameters
-use Rattle.record.specs.Record.{size, capacity, image}
-use Rattle.record.specs.declared.Rec.{Rec}
+use Rattle.record.specs.Record.{capacity, packed}
 use Rattle.sound.specs.Sound.{Channel, records, sizeFits, sound}
 use Rattle.table.specs.declared.State.{State}
 use Rattle.table.specs.declared.Answer.{Answer}
@@ -26,10 +25,6 @@ stateOf m = record { m1 = m .m1; now = m .now; count = m .count }
 -- the table that the octets hold
 unfoldable pub read : Channel → Table
 read m = record { m1 = m .m1; now = m .now; capacity = capacity (m .memory); records = records m }
-
--- the records' octets, then zeros
-unfoldable pub packed : ℕ → List Rec → List ℕ
-packed cap rs = image rs ++ replicate ((cap - len rs) * size) 0
 
 -- the octets and the state of a table
 unfoldable pub write : Table → Channel

@@ -5,7 +5,7 @@ use mathlib.Core.List.{List, [], _∷_, _++_, map}
 use lib.ListN.{length as len, getD, take, drop}
 use Rattle.octets.specs.Lists.{keep}
 use Rattle.octets.specs.Refusals.{firstOf, answer}
-use Rattle.record.specs.Record.{blank, capacity}
+use Rattle.record.specs.Record.{blank, capacity, packed}
 use Rattle.record.specs.declared.Rec.{Rec}
 use Rattle.series.specs.Series.{reserves}
 use Rattle.sound.specs.Sound.{Channel, records, lasts}
@@ -13,7 +13,7 @@ use Rattle.table.specs.declared.Stay.{Stay}
 use Rattle.table.specs.declared.State.{State}
 use Rattle.table.specs.declared.Answer.{Answer}
 use Rattle.table.specs.Table.{of, placeTests}
-use Rattle.table.specs.Memory.{stateOf, read, packed}
+use Rattle.table.specs.Memory.{stateOf, read}
 use Rattle.table.specs.Slots.{heldFar}
 
 -- a record of any station, or of another one only, that is not over at a slot

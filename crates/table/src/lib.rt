@@ -8,10 +8,10 @@ ghost use lib.ListN.{length, getD, set, take};
 ghost use Rattle.octets.specs.Lists.{keep, has};
 ghost use Rattle.octets.specs.Refusals.{firstOf};
 ghost use Rattle.distance.specs.Distances as Distances;
-ghost use Rattle.record.specs.Record.{view, blank, capacity};
+ghost use Rattle.record.specs.Record.{view, blank, capacity, packed};
 ghost use Rattle.sound.specs.Sound.{records, sound};
 ghost use Rattle.table.specs.Table.{clock, reserve, distance, wipe, bit, same, of, setFar, requestTests};
-ghost use Rattle.table.specs.Memory.{channel, packed, Gives, OpenGives};
+ghost use Rattle.table.specs.Memory.{channel, Gives, OpenGives};
 ghost use Rattle.table.specs.Slots.{slotState, slotAnswer};
 ghost use Rattle.table.specs.Steps.{stays, sieved, mapped, refused, swept, added, addedMemory, holdsMore};
 

@@ -9,6 +9,7 @@ use borrow.Author.Tests.{leb-true, ne-eqb}
 use Rattle.octets.specs.Refusals.{answer}
 use Rattle.octets.proofs.Lists.{keep-every, every-sub}
 use Rattle.octets.proofs.Refusals.{answer-refused, by-test, answer-elim}
+use Rattle.record.specs.Record.{capacity}
 use Rattle.record.specs.declared.Rec.{Rec}
 use Rattle.sound.specs.Sound.{Channel, sound, inRange}
 use Rattle.sound.proofs.Ranges.{ranges}
@@ -62,7 +63,8 @@ untraced-refined f t A g d cs r =
 pub wiped-without-trace : WipedWithoutTrace
 wiped-without-trace m1 b o A =
     let k = sound-empty m1 b o in
-    rw (opened-write m1 b o) (untraced-refined refined (empty m1 b) A k (untraced-records (empty m1 b) A k refl))
+    let t = empty m1 (capacity b) in
+    rw (opened-write m1 b o) (untraced-refined refined t A k (untraced-records t A k refl))
 
 -- ---- the same of real calls
 
@@ -98,7 +100,7 @@ real-calls m1 b o z g e A =
 -- ---- soundness
 
 pub sound-opened : SoundOpened
-sound-opened m1 b o = rw (opened-write m1 b o) (sound-write (empty m1 b) (sound-empty m1 b o))
+sound-opened m1 b o = rw (opened-write m1 b o) (sound-write (empty m1 (capacity b)) (sound-empty m1 b o))
 
 -- what a call that changes the table leaves
 sound-acts : (m : Channel) (c : Call) → sound m ≡ true → sound (acts m c) ≡ true

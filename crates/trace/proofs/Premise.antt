@@ -4,7 +4,6 @@ use mathlib.Core.Path.{_≡_, ap}
 use mathlib.Core.List.{List, [], _∷_}
 use lib.Ieee.{ofInt, le}
 use Rattle.octets.specs.Refusals.{answer}
-use Rattle.record.specs.Record.{size, capacity}
 use Rattle.table.specs.Table.{Call, reserve, wipe, same}
 use Rattle.table.specs.Memory.{write, leaves}
 use Rattle.trace.specs.Machine.{runs}
@@ -12,7 +11,7 @@ use Rattle.trace.specs.Sequences.{onOctets, without, is}
 use Rattle.trace.specs.Records.{after, onRecords}
 use Rattle.trace.specs.Claims.{oneSlot, opened1, PremiseNeeded}
 use Rattle.trace.proofs.Machine.{runs-good}
-use Rattle.trace.proofs.Written.{leaves-write, refined, empty, sound-empty, opened-runs, lent, lent-accepted}
+use Rattle.trace.proofs.Written.{leaves-write, refined, empty, sound-lent, lent-runs}
 
 -- the calls of both stations
 abbrev both : List Call
@@ -20,15 +19,15 @@ both = reserve (oneSlot 1) ∷ reserve (oneSlot 2) ∷ []
 
 -- both stations' calls and the wipe leave none
 none-left : leaves (runs onOctets opened1 both) (wipe 1) .count ≡ 0
-unfolding after answer ofInt le capacity size same write
+unfolding after answer ofInt le same write
 none-left =
-    let t = empty 4500 lent in
-    rw (opened-runs 4500 lent lent-accepted both, leaves-write (runs onRecords t both) (runs-good refined t both (sound-empty 4500 lent lent-accepted)) (wipe 1))
+    let t = empty 4500 1 in
+    rw (lent-runs both, leaves-write (runs onRecords t both) (runs-good refined t both sound-lent) (wipe 1))
 
 -- station 2's alone leave one
 one-left : runs onOctets opened1 (without (is 1) both) .count ≡ 1
-unfolding after answer ofInt le capacity size write
-one-left = rw (opened-runs 4500 lent lent-accepted (reserve (oneSlot 2) ∷ []))
+unfolding after answer ofInt le write
+one-left = rw (lent-runs (reserve (oneSlot 2) ∷ []))
 
 pub premise-needed : PremiseNeeded
 premise-needed e =

@@ -1,80 +1,36 @@
 -- A sound table is read back from its octets, so the calls over octets are the calls over records. Assumes nothing.
-use Prim.Native.Nat.{ℕ, _-_, _*_, _%_, _≤_, zero-le}
-use native.Mathlib.Nat.{div-eq-of-eq-mul-left, mul-mod-left}
-use native.Mathlib.Omega.{arith}
+use Prim.Native.Nat.{ℕ, zero-le}
 use mathlib.Core.Path.{_≡_, refl, sym, ap, _∙_}
 use mathlib.Core.Bool.{true, not, and-eq-true-iff}
 use mathlib.Core.List.{List, [], _∷_}
-use lib.Dec.{lit<}
-use lib.ListN.{length as len, take, replicate, length-append, length-replicate, take-append-drop}
-use lib.Seq.{drop-at}
+use lib.ListN.{length as len}
 use borrow.Author.Tests.{le-leb, not-false}
-use Rattle.octets.specs.Lists.{every}
-use Rattle.octets.specs.Octets.{AreOctets}
 use Rattle.octets.specs.Refusals.{within}
-use Rattle.octets.proofs.Zeros.{zeros-replicate}
 use Rattle.octets.proofs.Refusals.{firstOf-zero, answer-map}
 use Rattle.codec.specs.Parameters as Parameters
-use Rattle.record.specs.Record.{size, capacity, fields, image, whole, rest, view, FitRec, AllFit}
-use Rattle.record.specs.declared.Rec.{Rec}
-use Rattle.record.proofs.Views.{whole-length, length-image, view-front, image-take}
-use Rattle.sound.specs.Sound.{Channel, records, sizeFits, numbersFit, sound, inRange}
-use Rattle.sound.proofs.Sound.{Held, held}
-use Rattle.sound.proofs.Ranges.{ranges}
+use Rattle.record.specs.Record.{capacity, whole}
+use Rattle.record.proofs.Packed.{whole-packed, capacity-packed, view-packed, rest-packed, packed-none, packed-view}
+use Rattle.sound.specs.Sound.{Channel, records, sizeFits, numbersFit, sound}
+use Rattle.sound.proofs.Sound.{held}
+use Rattle.sound.proofs.Ranges.{all-fit}
 use Rattle.table.specs.Table.{Table, Call, clock, reserve, distance, wipe, look, changed}
-use Rattle.table.specs.Memory.{read, packed, write, refusal, acts, leaves, says, openRefusal, opened}
+use Rattle.table.specs.Memory.{read, write, refusal, acts, leaves, says, openRefusal, opened}
 use Rattle.table.proofs.Calls.{refusal-sound}
 use Rattle.trace.specs.Machine.{runs}
 use Rattle.trace.specs.Sequences.{onOctets}
 use Rattle.trace.specs.Records.{Sound, refusalOn, after, told, onRecords}
-use Rattle.trace.specs.Claims.{ReadBack, WrittenBack, Refined}
+use Rattle.trace.specs.Claims.{ReadBack, WrittenBack, Refined, lent1, opened1}
 use Rattle.trace.proofs.Machine.{runs-refined}
 use Rattle.trace.proofs.Kept.{after-look, all-in-range, sound-after}
 
 -- ---- records read back
-
--- a record in range fits its octets
-fit : (r : Rec) → inRange r ≡ true → FitRec r
-unfolding fields
-fit r h =
-    let k = ranges r h in
-    omega (arith, k .station, k .first, k .rate, k .superframes, k .length, k .far)
-
--- records in range fit theirs
-all-fit : (rs : List Rec) → every inRange rs ≡ true → AllFit rs
-all-fit [] h = tt
-all-fit (r ∷ rs) h =
-    let p = and-eq-true-iff (inRange r) (every inRange rs) .0 h in
-    (fit r (p .0), all-fit rs (p .1))
-
-module _ (cap : ℕ) (rs : List Rec) (h : len rs ≤ cap) where
-  -- a packed table has the octets of its capacity
-  length-packed : len (packed cap rs) ≡ cap * size
-  unfolding packed
-  length-packed = rw (length-append, length-replicate, length-image) (unfold size in omega arith)
-
-  -- the capacity is read back
-  capacity-packed : capacity (packed cap rs) ≡ cap
-  unfolding capacity
-  capacity-packed = div-eq-of-eq-mul-left (unfold size in lit< tt) length-packed
-
-  -- the records are read back
-  records-packed : every inRange rs ≡ true → take (len rs) (view (packed cap rs)) ≡ rs
-  unfolding packed
-  records-packed r =
-      view-front rs (replicate ((cap - len rs) * size) 0) (all-fit rs r) (unfold packed in rw capacity-packed h)
-
--- behind the records all octets are 0
-rest-packed : (cap : ℕ) (rs : List Rec) → rest (len rs) (packed cap rs) ≡ replicate ((cap - len rs) * size) 0
-unfolding packed
-rest-packed cap rs = drop-at (image rs) (replicate ((cap - len rs) * size) 0) (len rs * size) (length-image rs)
 
 -- a sound table is read back from its octets
 pub read-write : (t : Table) → Sound t → read (write t) ≡ t
 unfolding read write records
 read-write t k =
     let c = capacity-packed (t .capacity) (t .records) (k .room) in
-    let e = records-packed (t .capacity) (t .records) (k .room) (all-in-range t k) in
+    let e = view-packed (t .capacity) (t .records) (k .room) (all-fit (t .records) (all-in-range t k)) in
     λ i. record { m1 = t .m1; now = t .now; capacity = c i; records = e i }
 
 -- its records alone
@@ -90,19 +46,17 @@ unfolding sound numbersFit write records
 sound-write t k =
     let cap = t .capacity in
     let rs = t .records in
-    let w : len (packed cap rs) % size ≡ 0 = rw (length-packed cap rs (k .room)) (mul-mod-left cap size) in
     rw (
-      w,
+      whole-packed cap rs (k .room),
       capacity-packed cap rs (k .room),
       k .capacity-fits,
       k .m1-fits,
       le-leb (t .now) 1_000_000_000 (k .now-most),
       le-leb (len rs) cap (k .room),
-      records-packed cap rs (k .room) (all-in-range t k),
+      view-packed cap rs (k .room) (all-fit rs (all-in-range t k)),
       k .all-good,
       rest-packed cap rs,
     )
-    (zeros-replicate ((cap - len rs) * size))
 
 -- and the other way round
 pub sound-read : (m : Channel) → sound m ≡ true → Sound (read m)
@@ -114,17 +68,11 @@ sound-read m h =
 pub read-back : ReadBack
 read-back t k = (sound-write t k, read-write t k)
 
--- the records of a sound table, packed, are its octets
-packed-records : (m : Channel) → Held m → AreOctets (m .memory) → packed (capacity (m .memory)) (records m) ≡ m .memory
-unfolding packed records
-packed-records m k b =
-    rw (image-take (m .memory) b (k .whole-records) (m .count) (k .room), k .counted, ← k .tail) (take-append-drop (m .count * size) (m .memory))
-
 pub written-back : WrittenBack
-unfolding read write
+unfolding read write records
 written-back m b h =
     let k = held m h in
-    let e = packed-records m k b in
+    let e = packed-view (m .memory) (m .count) b (k .whole-records) (k .room) (k .clear) in
     (sound-read m h, λ i. record { m1 = m .m1; now = m .now; count = k .counted i; memory = e i })
 
 -- ---- a call
@@ -162,9 +110,9 @@ refined = record { leaves = λ t c k. leaves-write t k c; says = λ t c k. says-
 
 -- ---- an accepted opening
 
--- the table that it leaves
-abbrev pub empty : ℕ → List ℕ → Table
-empty m1 b = record { m1 = m1; now = 0; capacity = capacity b; records = [] }
+-- the table that it leaves, of a capacity
+abbrev pub empty : ℕ → ℕ → Table
+empty m1 cap = record { m1 = m1; now = 0; capacity = cap; records = [] }
 
 module _ (m1 : ℕ) (b : List ℕ) (o : openRefusal m1 b ≡ 0) where
   -- M1 fits its row, and the memory is a whole number of records, 1 to 2,048
@@ -176,28 +124,30 @@ module _ (m1 : ℕ) (b : List ℕ) (o : openRefusal m1 b ≡ 0) where
       (not-false (Parameters.fits 1 m1) (p .0), size .0, size .1)
 
   -- the table that it leaves is sound
-  pub sound-empty : Sound (empty m1 b)
+  pub sound-empty : Sound (empty m1 (capacity b))
   sound-empty =
       record { m1-fits = open-fits .0; capacity-fits = open-fits .2; now-most = zero-le; room = zero-le; all-good = refl }
 
   -- the octets left are those of the empty table
-  pub opened-write : opened m1 b ≡ write (empty m1 b)
-  unfolding write packed image
-  opened-write =
-      let e : (capacity b - 0) * size ≡ len b = unfold size in omega (arith, whole-length b (open-fits .1)) in
-      rw e
-
-  -- so a sequence after it goes by records
-  pub opened-runs : (cs : List Call) → runs onOctets (opened m1 b) cs ≡ write (runs onRecords (empty m1 b) cs)
-  opened-runs cs = rw (opened-write, runs-refined refined (empty m1 b) cs sound-empty)
+  pub opened-write : opened m1 b ≡ write (empty m1 (capacity b))
+  unfolding write
+  opened-write = rw (packed-none b (open-fits .1))
 
 -- ---- the table of the cases: M1 4500, and room for one record
 
--- the octets lent for it
-abbrev pub lent : List ℕ
-lent = replicate 12 0
+-- its memory has this capacity
+lent-capacity : capacity lent1 ≡ 1
+lent-capacity = capacity-packed 1 [] zero-le
 
 -- its opening is accepted
-pub lent-accepted : openRefusal 4500 lent ≡ 0
-unfolding openRefusal Parameters.fits capacity size
-lent-accepted = refl
+lent-accepted : openRefusal 4500 lent1 ≡ 0
+unfolding openRefusal Parameters.fits
+lent-accepted = rw (whole-packed 1 [] zero-le, lent-capacity)
+
+-- it is sound
+pub sound-lent : Sound (empty 4500 1)
+sound-lent = rw lent-capacity at (sound-empty 4500 lent1 lent-accepted)
+
+-- a sequence on it goes by records
+pub lent-runs : (cs : List Call) → runs onOctets opened1 cs ≡ write (runs onRecords (empty 4500 1) cs)
+lent-runs cs = rw (opened-write 4500 lent1 lent-accepted, lent-capacity, runs-refined refined (empty 4500 1) cs sound-lent)

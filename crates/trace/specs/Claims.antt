@@ -3,11 +3,11 @@ use Prim.Native.Nat.{ℕ}
 use mathlib.Core.Path.{_≡_}
 use mathlib.Core.Bool.{true}
 use mathlib.Core.List.{List, [], _∷_}
-use lib.ListN.{replicate}
 use Rattle.octets.specs.Octets.{AreOctets}
 use Rattle.octets.specs.Refusals.{firstOf}
 use Rattle.distance.specs.declared.Distance.the-variants.{Unknown}
 use Rattle.distance.specs.Distances.{num}
+use Rattle.record.specs.Record.{packed}
 use Rattle.sound.specs.Sound.{Channel, sound}
 use Rattle.table.specs.declared.State.{State}
 use Rattle.table.specs.declared.Answer.{Answer}
@@ -82,9 +82,12 @@ SlotStateLooks = (m : Channel) (slot : ℕ) → said (slotAnswer m slot) ≡ say
 abbrev pub oneSlot : ℕ → Request
 oneSlot s = record { station = s; rate = 1; superframes = 1; bs = 2; length = 1; distance = Unknown; limit = num 150 }
 
--- room for one record
+-- a memory with room for one record, and the table opened there
+abbrev pub lent1 : List ℕ
+lent1 = packed 1 []
+
 abbrev pub opened1 : Channel
-opened1 = opened 4500 (replicate 12 0)
+opened1 = opened 4500 lent1
 
 -- station 1 takes the only place, and station 2 is refused because the table is full: without station 1 it is not
 abbrev pub PremiseNeeded : Type 0

@@ -2,6 +2,7 @@
 use Rattle.record.specs.Record.{size}
 use Rattle.record.proofs.Cases.{one-record}
 use Rattle.record.proofs.Views.{view-image, image-view, whole-length, length-image}
+use Rattle.record.proofs.Packed.{whole-packed, capacity-packed, view-packed, rest-packed, packed-view}
 use Rattle.record.proofs.claims.Statement.{statement}
 use Rattle.record.proofs.claims.Tie as tie
 
@@ -13,6 +14,8 @@ returns c =
       read-is-written = λ m are w. image-view m are (whole-length m w);
       written-length = length-image;
       one-record = one-record;
+      packed-is-read = λ cap rs f h. (whole-packed cap rs h, capacity-packed cap rs h, view-packed cap rs h f, rest-packed cap rs);
+      read-is-packed = packed-view;
     }
 
 pub claims-spec : {M : Type 1} → statement M

@@ -6,7 +6,7 @@ use denote.Ref.{now}
 use mathlib.Core.List.{append-nil}
 use lib.ListN.{length}
 use lib.Seq.{take-all}
-use Rattle.record.specs.Record.{size}
+use Rattle.record.specs.Record.{size, clearAfter}
 use borrow.Author.Needs.{needs}
 use Rattle.record.proofs.clear.Statement.{statement}
 use Rattle.record.proofs.clear.Tie as tie
@@ -21,11 +21,11 @@ same-length : tie.Need-same-length
 same-length c = search needs
 
 returns : tie.Need-returns
-unfolding size
+unfolding clearAfter size
 returns c = search needs
 
 returns-2 : tie.Need-returns-2
-unfolding size
+unfolding clearAfter size
 returns-2 c =
     let s = c .before .before in
     let m = now (s .args .memory) in

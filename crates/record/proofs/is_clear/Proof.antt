@@ -3,7 +3,7 @@ use Prim.Native.Nat.{_*_}
 use native.Mathlib.Omega.{arith}
 use denote.Ref.{now}
 use lib.ListN.{drop-of-length-le}
-use Rattle.record.specs.Record.{size}
+use Rattle.record.specs.Record.{size, rest}
 use borrow.Author.Needs.{needs}
 use Rattle.record.proofs.is_clear.Statement.{statement}
 use Rattle.record.proofs.is_clear.Tie as tie
@@ -15,11 +15,11 @@ zero-from-requires : tie.Need-zero-from-requires
 zero-from-requires c κs = search needs
 
 returns : tie.Need-returns
-unfolding size
+unfolding rest size
 returns c = search needs
 
 returns-2 : tie.Need-returns-2
-unfolding size
+unfolding rest size
 returns-2 c =
     let s = c .before .before in
     rw (drop-of-length-le (now (s .args .memory)) {i = s .args .n * 12} (omega arith))

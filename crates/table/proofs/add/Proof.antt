@@ -9,12 +9,12 @@ use borrow.Author.Needs.{needs}
 use Rattle.octets.specs.Lists.{has}
 use Rattle.octets.proofs.Refusals.{answer-refused, answer-accepted}
 use Rattle.record.specs.Record.{capacity}
+use Rattle.record.proofs.Packed.{packed-end}
 use Rattle.sound.specs.Sound.{Channel, records}
 use Rattle.sound.proofs.Sound.{Held, held}
 use Rattle.table.specs.Table.{same}
 use Rattle.table.specs.Memory.{channel, read}
 use Rattle.table.specs.Steps.{added, addedMemory}
-use Rattle.table.proofs.Memory.{packed-end}
 use Rattle.table.proofs.add.Statement.{statement}
 use Rattle.table.proofs.add.Tie as tie
 
@@ -94,7 +94,7 @@ returns-3 c =
     let other : m .count ≡ capacity (m .memory) → ⊥ = λ e. at-if2 .if2 .left (e ∙ sym (at-if2 .before .capacity .ensures)) in
     let room : m .count < capacity (m .memory) = omega (arith, k .room, other) in
     let free = ne-eqb (m .count) (capacity (m .memory)) other in
-    let end = packed-end m (entry x .args .x) k (λ i. x .before .before .before .slice-known .given i .fits) room in (
+    let end = packed-end (m .memory) (m .count) (λ i. x .before .before .before .slice-known .given i .fits) (k .whole-records) (k .room) (k .clear) (entry x .args .x) room in (
       answer-accepted _ _ (rw (is-new at-if1, k .counted, free)),
       c .before .before .before .store .ensures .0 ∙ end ∙ answer-accepted _ _ (rw (is-new at-if1, k .counted, free)),
     )

@@ -5,7 +5,8 @@ use denote.Ref.{now}
 use borrow.Author.Tests.{eq-eqb, ne-eqb}
 use lib.Seq.{set-getD}
 use borrow.Author.Needs.{needs}
-use Rattle.record.specs.Record.{view, capacity, blank, size}
+use Rattle.record.specs.Record.{view, blank}
+use Rattle.record.proofs.Views.{capacity-most}
 use Rattle.table.proofs.mark.Statement.{statement}
 use Rattle.table.proofs.mark.Tie as tie
 
@@ -16,8 +17,7 @@ store-requires : tie.Need-store-requires
 store-requires c κs = search needs
 
 add-result : tie.Need-add-result
-unfolding capacity size
-add-result c = omega arith
+add-result c = omega (arith, capacity-most (now (c .before .before .before .before .before .before .before .before .before .args .memory)))
 
 same-length : tie.Need-same-length
 same-length c = search needs

@@ -1,8 +1,9 @@
 -- `table::sift` meets its contract: the record is moved, and counted where it stays. Assumes nothing.
 use mathlib.Core.Path.{refl}
 use native.Mathlib.Omega.{arith}
+use denote.Ref.{now}
 use borrow.Author.Needs.{needs}
-use Rattle.record.specs.Record.{capacity, size}
+use Rattle.record.proofs.Views.{capacity-most}
 use Rattle.table.proofs.sift.Statement.{statement}
 use Rattle.table.proofs.sift.Tie as tie
 
@@ -16,8 +17,7 @@ does-stay-requires : tie.Need-does-stay-requires
 does-stay-requires c κs = search needs
 
 add-result : tie.Need-add-result
-unfolding capacity size
-add-result c = omega arith
+add-result c = omega (arith, capacity-most (now (c .before .before .before .before .before .before .before .before .before .args .memory)))
 
 same-length : tie.Need-same-length
 same-length c = search needs

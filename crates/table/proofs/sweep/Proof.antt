@@ -7,11 +7,12 @@ use borrow.Author.Needs.{needs}
 use lib.ListN.{length}
 use Rattle.octets.specs.Lists.{keep}
 use Rattle.record.specs.Record.{capacity}
+use Rattle.record.proofs.Packed.{packed-front}
 use Rattle.sound.specs.Sound.{Channel, records}
 use Rattle.sound.proofs.Sound.{Held, held}
 use Rattle.table.specs.Memory.{channel}
 use Rattle.table.specs.Steps.{stays}
-use Rattle.table.proofs.Memory.{length-kept, packed-front}
+use Rattle.table.proofs.Memory.{length-kept}
 use Rattle.table.proofs.sweep.Statement.{statement}
 use Rattle.table.proofs.sweep.Tie as tie
 

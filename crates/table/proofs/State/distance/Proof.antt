@@ -6,11 +6,13 @@ use denote.Ref.{now}
 use borrow.Author.Tests.{le-leb, lt-leb}
 use borrow.Author.Needs.{needs}
 use lib.ListN.{length-map}
+use Rattle.record.proofs.Packed.{packed-map}
 use Rattle.sound.specs.Sound.{Channel, records, sound}
 use Rattle.sound.proofs.Sound.{Held, held}
 use Rattle.table.specs.Table.{Call, distance, of, setFar}
 use Rattle.table.specs.Memory.{channel, read, write}
-use Rattle.table.proofs.Memory.{length-kept, packed-mapped}
+use Rattle.table.specs.Steps.{mapped}
+use Rattle.table.proofs.Memory.{length-kept}
 use Rattle.table.proofs.Calls.{refusal-sound, unsound-gives, tested-gives, accepted-gives}
 use Rattle.table.proofs.State.distance.Statement.{statement}
 use Rattle.table.proofs.State.distance.Tie as tie
@@ -71,7 +73,7 @@ same-length-2 : tie.Need-same-length-2
 same-length-2 c = search needs
 
 returns-2 : tie.Need-returns-2
-unfolding read write records
+unfolding read write records mapped
 returns-2 c =
     let at-far-bit = c .before .before .before .before .before in
     let at-if3 = at-far-bit .before in
@@ -83,7 +85,7 @@ returns-2 c =
     let fit = sym (at-if3 .before .limit-fits .ensures) ∙ at-if3 .if3 .taken in
     let g = accepted-gives m (call (t .before)) (sym (refusal-sound m (call (t .before)) (is-sound t) ∙ rw (lt-leb _ _ (at-if2 .if2 .left), fit))) refl in
     let mark = c .before .before .mark-all in
-    let w = packed-mapped m (setFar (at-slice .before .args .station) (at-far-bit .far-bit .result)) (mark .last .0) k (λ i. at-slice .slice-known .given i .fits) (λ i. c .slice-known2 .given i .fits) (mark .kept .0) (mark .ensures .1) in
+    let w = packed-map (m .memory) (m .count) (λ i. at-slice .slice-known .given i .fits) (k .whole-records) (k .room) (k .clear) (setFar (at-slice .before .args .station) (at-far-bit .far-bit .result)) (mark .last .0) (λ i. c .slice-known2 .given i .fits) (mark .kept .0) (mark .ensures .1) in
     record { result = rw (mark .ensures .0, ← g .result, length-map, k .counted); octets = w ∙ rw (at-far-bit .far-bit .ensures) (g .octets) }
 
 refuse-requires-2 : tie.Need-refuse-requires-2

@@ -1,15 +1,11 @@
 -- `table::State::open` meets its contract: each `return` rewrites by the tests that led there. Assumes nothing.
-use Prim.Native.Nat.{_-_}
-use native.Mathlib.Omega.{arith}
-use native.Mathlib.Nat.{zero-mul}
 use mathlib.Core.Path.{_≡_, sym, _∙_}
 use mathlib.Core.Bool.{true, false}
 use denote.Ref.{now}
-use lib.ListN.{length}
 use borrow.Author.Needs.{needs}
 use Rattle.octets.specs.Refusals.{answer}
 use Rattle.codec.specs.Parameters as Parameters
-use Rattle.record.specs.Record.{size}
+use Rattle.record.proofs.Packed.{clearAfter-none}
 use Rattle.sound.specs.Sound.{sizeFits}
 use Rattle.table.specs.Memory.{openRefusal, openLeaves, openReturned}
 use Rattle.table.proofs.State.open.Statement.{statement}
@@ -38,8 +34,7 @@ returns c =
     let m = now (start .args .memory) in
     let f : Parameters.fits 1 (start .args .m1) ≡ true = sym (at-m1-fits .m1-fits .ensures) ∙ at-if1 .if1 .taken in
     let z : sizeFits m ≡ true = sym (at-size-fits .size-fits .ensures) ∙ at-if2 .if2 .taken in
-    let l : length m - 0 ≡ length m = omega arith in
-    record { result = rw (f, z); octets = c .before .before .clear .ensures ∙ rw (f, z, zero-mul size, l) }
+    record { result = rw (f, z); octets = c .before .before .clear .ensures ∙ rw (f, z, clearAfter-none m) }
 
 refuse-requires : tie.Need-refuse-requires
 refuse-requires c κs = search needs

@@ -7,12 +7,12 @@ use denote.Ref.{now}
 use borrow.Author.Tests.{le-leb, lt-leb}
 use borrow.Author.Needs.{needs}
 use Rattle.octets.specs.Lists.{keep}
-use Rattle.record.specs.Record.{capacity}
+use Rattle.record.specs.Record.{capacity, packed}
 use Rattle.record.specs.declared.Rec.{Rec}
 use Rattle.series.specs.Series.{lastSlot}
 use Rattle.sound.specs.Sound.{Channel, records, sound, lasts}
 use Rattle.table.specs.Table.{Call, wipe, of}
-use Rattle.table.specs.Memory.{channel, read, packed}
+use Rattle.table.specs.Memory.{channel, read}
 use Rattle.table.specs.Steps.{stays, swept}
 use Rattle.table.proofs.Calls.{unsound-gives, tested-gives, sweep-gives}
 use Rattle.table.proofs.State.wipe.Statement.{statement}
