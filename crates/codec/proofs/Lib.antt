@@ -1,5 +1,4 @@
 pub mod Cases
-pub mod Complement
 pub mod Tests
 pub mod RoundTrips
 pub mod Rates

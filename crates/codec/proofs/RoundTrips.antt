@@ -6,13 +6,13 @@ use native.Mathlib.Omega.{arith}
 use native.Mathlib.Nat.{div-div-eq-div-mul, div-one}
 use Rattle.octets.specs.Octets.{AreOctets}
 use Rattle.octets.specs.Refusals.{firstOf}
+use Rattle.octets.proofs.Complement.{signed-twos, twos-signed}
 use Rattle.octets.proofs.Refusals.{answer-accepted}
 use Rattle.codec.specs.declared.Block.{Block}
 use Rattle.codec.specs.declared.Reading.{Reading}
 use Rattle.codec.specs.declared.Writing.{Writing}
 use Rattle.codec.specs.NineOctets.{octet, bits, octetsOf, blockOf, fieldTests, reading, refusedReading, writing, refusedWriting}
 use Rattle.codec.specs.Claims.{WrittenIsRead, ReadIsWritten, cleared}
-use Rattle.codec.proofs.Complement.{signed-twos, twos-signed}
 use Rattle.codec.specs.Steps.{Fitting}
 use Rattle.codec.proofs.Tests.{reading-refusal, writing-refusal, write-passed, write-fields, read-fields, read-passed, block-fitting}
 

@@ -7,13 +7,14 @@ use native.Mathlib.Omega.{arith}
 use borrow.Author.Tests.{eq-eqb, ne-eqb, lt-leb, lt-ltb, le-ltb, leb-false, ltb-false, eqb-true, not-false}
 use lib.Dec.{eqb, leb, ltb}
 use lib.ListN.{length}
+use Rattle.octets.specs.Complement.{badOffset}
 use Rattle.octets.specs.Octets.{AreOctets}
 use Rattle.octets.specs.Refusals.{firstOf, outside}
 use Rattle.octets.proofs.Refusals.{firstOf-cons, firstOf-zero, firstOf-most, answer-accepted, answer-says, or-eq-false, outside-false}
 use Rattle.codec.specs.declared.Block.{Block}
 use Rattle.codec.specs.declared.Reading.{Reading}
 use Rattle.codec.specs.declared.Writing.{Writing}
-use Rattle.codec.specs.NineOctets.{octet, bits, blockOf, badCode, badOffset, fieldTests, readTests, writeTests, reading, refusedReading, writing, refusedWriting}
+use Rattle.codec.specs.NineOctets.{octet, bits, blockOf, badCode, fieldTests, readTests, writeTests, reading, refusedReading, writing, refusedWriting}
 use Rattle.codec.specs.Steps.{Fitting}
 
 -- ---- the refusal by the tests that led to it

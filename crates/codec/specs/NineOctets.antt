@@ -1,11 +1,11 @@
 -- The nine octets of a superframe block reservation (004, Tables 1-40 and 1-41): the fields in them, and what reading and writing give.
 use Prim.Native.Nat.{ℕ, _+_, _-_, _*_, _/_, _%_, _^_}
-use mathlib.Core.Bool.{Bool, not, cond, _||_}
+use mathlib.Core.Bool.{Bool, not, _||_}
 use mathlib.Core.List.{List, [], _∷_}
-use lib.IntN.{ℤ, pos, negsuc, subℕ}
-use lib.Signed.{ltZ}
+use lib.IntN.{pos}
 use lib.Dec.{ltb, leb, eqb}
 use lib.ListN.{length, getD, replicate}
+use Rattle.octets.specs.Complement.{signedOf, twosOf, badOffset}
 use Rattle.octets.specs.Refusals.{firstOf, answer, outside}
 use Rattle.codec.specs.declared.Block.{Block}
 use Rattle.codec.specs.declared.Reading.{Reading}
@@ -20,15 +20,6 @@ octet k s = getD s (k - 1) 0
 -- bits hi to lo of a number, bit 1 the lowest
 abbrev pub bits : ℕ → ℕ → ℕ → ℕ
 bits hi lo n = n / 2 ^ (lo - 1) % 2 ^ (hi - lo + 1)
-
--- the number that an octet says in two's complement: n below 128, n - 256 from there on
-abbrev pub signedOf : ℕ → ℤ
-signedOf n = cond (ltb n 128) (pos n) (subℕ n 256)
-
--- the octet that says a number of -128..127 in two's complement: n for n, 256 - (n + 1) for -(n + 1)
-abbrev pub twosOf : ℤ → ℕ
-twosOf (pos n) = n
-twosOf (negsuc n) = 255 - n
 
 -- the fields that nine octets hold
 abbrev pub blockOf : List ℕ → Block
@@ -62,10 +53,6 @@ octetsOf b =
 -- code 7, 14, 15 or above 15
 abbrev pub badCode : ℕ → Bool
 badCode br = eqb br 7 || leb 14 br
-
--- outside -127..127
-abbrev pub badOffset : ℤ → Bool
-badOffset bo = ltZ bo (negsuc 126) || ltZ (pos 127) bo
 
 -- what reading and writing are both refused for: 3, 4, 5, 6
 unfoldable pub fieldTests : Block → List (ℕ × Bool)

@@ -2,8 +2,8 @@
 use Prim.Native.Nat.{_^_, _≤_, _<_}
 use mathlib.Core.Path.{_≡_}
 use mathlib.Core.Bool.{false}
+use Rattle.octets.specs.Complement.{badOffset}
 use Rattle.codec.specs.declared.Block.{Block}
-use Rattle.codec.specs.NineOctets.{badOffset}
 
 -- each field fits the bits that it is written to
 pub record Fitting (b : Block) : Type 0 where

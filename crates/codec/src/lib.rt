@@ -4,8 +4,9 @@ ghost use mathlib.Core.Bool.{false, cond};
 ghost use mathlib.Core.List.{[], _∷_};
 ghost use lib.Dec.{leb, eqb};
 ghost use Rattle.octets.specs.Lists.{every};
+ghost use Rattle.octets.specs.Complement.{twosOf, badOffset};
 ghost use Rattle.octets.specs.Refusals.{firstOf};
-ghost use Rattle.codec.specs.NineOctets.{bits, signedOf, twosOf, badOffset, badCode, fieldTests, writeTests, blockOf, octetsOf, reading, refusedReading, writing};
+ghost use Rattle.codec.specs.NineOctets.{bits, badCode, fieldTests, writeTests, blockOf, octetsOf, reading, refusedReading, writing};
 ghost use Rattle.codec.specs.Rates.{badList, rateFound, refusedFound};
 ghost use Rattle.codec.specs.Parameters.{unknown, rowOf, parameterTests, defaultFound};
 ghost use Rattle.codec.specs.Claims.{Claims};
@@ -37,13 +38,6 @@ pub struct Reading {
 pub struct Writing {
     pub refusal: u32,
     pub octets: [u8; 9],
-}
-
-// An octet read as two's complement.
-fn signed(x: u8) -> i32
-    ensures { λ r. ⌜ r ≡ signedOf x ⌝ }
-{
-    if x < 128 { x as i32 } else { (x as i32) - 256 }
 }
 
 // The octet that says bo in two's complement.
@@ -114,7 +108,7 @@ fn fields(o1: u8, o2: u8, o3: u8, o4: u8, o5: u8, o6: u8, o7: u8, o8: u8, o9: u8
         roff: o5 as u32,
         br: rate_code(o6),
         bs: o7 as u32,
-        bo: signed(o8),
+        bo: octets::signed(o8),
         bt: (o9 as u32) % 4,
     }
 }

@@ -9,13 +9,14 @@ use borrow.Author.Tests.{eqb-true, eqb-false}
 use lib.Dec.{eqb}
 use lib.IntN.{ℤ, pos, negsuc}
 use lib.ListN.{length, length-append}
+use Rattle.octets.specs.Complement.{badOffset}
 use Rattle.octets.specs.Octets.{AreOctets}
+use Rattle.octets.proofs.Complement.{offset-small}
 use Rattle.octets.proofs.Refusals.{answer-accepted, answer-refused}
 use Rattle.codec.specs.declared.Block.{Block}
 use Rattle.codec.specs.Steps.{Fitting}
 use Rattle.codec.specs.declared.Reading.{Reading}
-use Rattle.codec.specs.NineOctets.{reading, badOffset}
-use Rattle.codec.proofs.Complement.{offset-small}
+use Rattle.codec.specs.NineOctets.{reading}
 use Rattle.codec.proofs.Tests.{read-fitting, reading-refusal-most}
 use Rattle.lines.specs.Text.{signed}
 use Rattle.lines.specs.Listing.{fields, refused, line, group, lines, longest}

@@ -2,3 +2,4 @@ pub mod Lists
 pub mod Refusals
 pub mod Octets
 pub mod Zeros
+pub mod Complement

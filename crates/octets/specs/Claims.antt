@@ -1,9 +1,13 @@
--- What is claimed of little-endian numbers, at every width. `claims` in src/lib.rt promises all of it.
+-- What is claimed of little-endian numbers, at every width, and of two's complement. `claims` in src/lib.rt promises all of it.
 use Prim.Native.Nat.{ℕ, _^_, _<_}
 use mathlib.Core.Path.{_≡_}
+use mathlib.Core.Bool.{false}
 use mathlib.Core.List.{List}
+use lib.IntN.{ℤ}
+use lib.Dec.{eqb}
 use lib.ListN.{length}
 use Rattle.octets.specs.Octets.{AreOctets, little, number}
+use Rattle.octets.specs.Complement.{signedOf, twosOf, badOffset}
 
 pub record Claims : Type 0 where
   -- a number of w octets comes back from its octets
@@ -15,3 +19,7 @@ pub record Claims : Type 0 where
   pub written-octets : (w n : ℕ) → AreOctets (little w n)
   -- what w octets say is below 256 to the w
   pub read-bound : (bs : List ℕ) → AreOctets bs → number bs < 256 ^ length bs
+  -- two's complement: a number of -127..127 comes back from its octet, an octet from its number, and of the octets only 128 says a number outside
+  pub twos-is-signed : (z : ℤ) → badOffset z ≡ false → signedOf (twosOf z) ≡ z
+  pub signed-is-twos : (n : ℕ) → n < 256 → twosOf (signedOf n) ≡ n
+  pub only-128 : (n : ℕ) → n < 256 → badOffset (signedOf n) ≡ eqb n 128

@@ -1,4 +1,5 @@
 pub mod Lists
 pub mod Refusals
 pub mod Octets
+pub mod Complement
 pub mod Claims

@@ -1,9 +1,10 @@
-// Little-endian numbers in octets, and octets that are 0.
+// Little-endian numbers in octets, two's complement, and octets that are 0.
 ghost use mathlib.Core.Path.{_≡_};
 ghost use Prim.Native.Nat.{_<_};
 ghost use mathlib.Core.List.{_∷_, []};
 ghost use lib.ListN.{drop};
 ghost use Rattle.octets.specs.Octets.{little, number, zeros, zeroFrom};
+ghost use Rattle.octets.specs.Complement.{signedOf};
 ghost use Rattle.octets.specs.Claims.{Claims};
 
 fn wide(x: u8) -> u32
@@ -32,6 +33,13 @@ pub fn split(x: u32) -> [u8; 4]
         (z % 256) as u8,
         (v % 256) as u8,
     ]
+}
+
+// The number that an octet says in two's complement.
+pub fn signed(x: u8) -> i32
+    ensures { λ r. ⌜ r ≡ signedOf x ⌝ }
+{
+    if x < 128 { x as i32 } else { (x as i32) - 256 }
 }
 
 // Whether every octet from `at` on is 0. It looks at all of them: without an early way out the loop is vectorised.

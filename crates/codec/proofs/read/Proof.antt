@@ -8,12 +8,13 @@ use denote.Ref.{now}
 use borrow.Author.Needs.{needs}
 use borrow.Author.Tests.{eq-eqb, ne-eqb}
 use lib.Dec.{eqb}
+use Rattle.octets.specs.Complement.{badOffset}
 use Rattle.octets.specs.Refusals.{firstOf, outside}
+use Rattle.octets.proofs.Complement.{octet-offset}
 use Rattle.octets.proofs.Refusals.{answer-refused, answer-accepted}
 use Rattle.codec.specs.declared.Block.{Block}
-use Rattle.codec.specs.NineOctets.{octet, blockOf, badCode, badOffset, fieldTests, readTests}
+use Rattle.codec.specs.NineOctets.{octet, blockOf, badCode, fieldTests, readTests}
 use Rattle.codec.proofs.Tests.{read-1, read-2, read-fields, field-3, field-4, field-5, field-6, field-0, octet-low, octet-inside}
-use Rattle.codec.proofs.Complement.{octet-offset}
 use Rattle.codec.proofs.read.Statement.{statement}
 use Rattle.codec.proofs.read.Tie as tie
 

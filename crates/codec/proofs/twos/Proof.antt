@@ -6,8 +6,8 @@ use lib.IntN.{pos, natAbs, _+ℤ_}
 use mir.Syntax.{w8, w32}
 use mir.Val.{Fits, toZ, ofZ}
 use mir.Facts.{toZ-ofZ}
-use Rattle.codec.proofs.Complement.{twos-octet, twos-below, twos-above, whole-fits, whole-stays, whole-casts}
-use Rattle.codec.specs.NineOctets.{twosOf}
+use Rattle.octets.specs.Complement.{twosOf}
+use Rattle.octets.proofs.Complement.{twos-octet, twos-below, twos-above, whole-fits, whole-stays, whole-casts}
 use Rattle.codec.proofs.twos.Statement.{statement}
 use Rattle.codec.proofs.twos.Tie as tie
 

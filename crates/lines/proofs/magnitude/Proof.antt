@@ -8,7 +8,7 @@ use lib.IntN.{pos, negsuc, _-ℤ_}
 use mir.Syntax.{w32}
 use mir.Val.{Fits, toZ, ofZ}
 use mir.Facts.{toZ-ofZ}
-use Rattle.codec.proofs.Complement.{whole-fits, whole-stays, whole-casts}
+use Rattle.octets.proofs.Complement.{whole-fits, whole-stays, whole-casts}
 use Rattle.lines.proofs.Signed.{minus-below, size-below, same-above}
 use Rattle.lines.proofs.magnitude.Statement.{statement}
 use Rattle.lines.proofs.magnitude.Tie as tie

@@ -1,5 +1,6 @@
 -- `octets::claims` promises what the laws prove. Assumes nothing.
 use Rattle.octets.proofs.Octets.{number-little, little-number, length-little, are-octets-little, number-bound}
+use Rattle.octets.proofs.Complement.{signed-twos, twos-signed, octet-offset}
 use Rattle.octets.proofs.claims.Statement.{statement}
 use Rattle.octets.proofs.claims.Tie as tie
 
@@ -11,6 +12,9 @@ returns c =
       written-length = length-little;
       written-octets = are-octets-little;
       read-bound = number-bound;
+      twos-is-signed = signed-twos;
+      signed-is-twos = twos-signed;
+      only-128 = octet-offset;
     }
 
 pub claims-spec : {M : Type 1} → statement M

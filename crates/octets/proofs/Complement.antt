@@ -10,8 +10,8 @@ use lib.IntN.{ℤ, pos, negsuc, natAbs, _+ℤ_}
 use lib.Signed.{ltZ, nonNeg}
 use lib.Dec.{T, ltb, eqb}
 use borrow.Author.Tests.{ltb-true, ltb-false, lt-ltb, le-ltb, eqb-true, eqb-false, ne-eqb}
+use Rattle.octets.specs.Complement.{signedOf, twosOf, badOffset}
 use Rattle.octets.proofs.Refusals.{or-eq-false}
-use Rattle.codec.specs.NineOctets.{badOffset, twosOf, signedOf}
 
 -- ---- an offset that is not bad
 
