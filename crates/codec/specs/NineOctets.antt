@@ -1,7 +1,7 @@
 -- The nine octets of a superframe block reservation (004, Tables 1-40 and 1-41): the fields in them, and what reading and writing give.
 use Prim.Native.Nat.{ℕ, _+_, _-_, _*_, _/_, _%_, _^_}
 use mathlib.Core.Bool.{Bool, not, _||_}
-use mathlib.Core.List.{List, [], _∷_}
+use mathlib.Core.List.{List, [], _∷_, _++_}
 use lib.IntN.{pos}
 use lib.Dec.{ltb, leb, eqb}
 use lib.ListN.{length, getD, replicate}
@@ -54,14 +54,16 @@ octetsOf b =
 abbrev pub badCode : ℕ → Bool
 badCode br = eqb br 7 || leb 14 br
 
--- what reading and writing are both refused for: 3, 4, 5, 6
+-- what reading and writing are both refused for: first 3, 4, 5
+abbrev pub rangeTests : Block → List (ℕ × Bool)
+rangeTests b = (3, badCode (b .br)) ∷ (4, outside 2 255 (b .roff)) ∷ (5, outside 2 255 (b .bs)) ∷ []
+
+-- and then 6
+abbrev pub offsetTests : Block → List (ℕ × Bool)
+offsetTests b = (6, badOffset (b .bo)) ∷ []
+
 unfoldable pub fieldTests : Block → List (ℕ × Bool)
-fieldTests b =
-    (3, badCode (b .br))
-    ∷ (4, outside 2 255 (b .roff))
-    ∷ (5, outside 2 255 (b .bs))
-    ∷ (6, badOffset (b .bo))
-    ∷ []
+fieldTests b = rangeTests b ++ offsetTests b
 
 -- what reading is refused for: 1, 2, 3, 4, 5, 6
 unfoldable pub readTests : List ℕ → List (ℕ × Bool)

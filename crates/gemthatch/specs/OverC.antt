@@ -18,6 +18,10 @@ use Rattle.search.specs.declared.Query.{Query}
 use Rattle.search.specs.Search.{found, searched}
 use Rattle.gemthatch.specs.declared.Place.{Place}
 
+-- no refusal has a larger number
+abbrev pub largest : ℕ
+largest = 22
+
 -- the number reported, the slot's state or the number found; refused, 2,000,000,000 plus the refusal's number
 unfoldable pub overC : ℕ → ℕ → ℕ
 overC refusal number = answer refusal number (λ n. 2_000_000_000 + n)

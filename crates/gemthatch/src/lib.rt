@@ -25,7 +25,7 @@ ghost use Rattle.distance.specs.Distances.{distanceOf};
 ghost use Rattle.table.specs.Table.{clock, reserve, distance, wipe};
 ghost use Rattle.table.specs.Memory.{channel, leaves, openRefusal, openLeaves};
 ghost use Rattle.search.specs.Search.{found, searched, picked};
-ghost use Rattle.gemthatch.specs.OverC.{overC, lent, request, query, called, slotNumber, searchNumber, inOctets, searchList, placeAt};
+ghost use Rattle.gemthatch.specs.OverC.{largest, overC, lent, request, query, called, slotNumber, searchNumber, inOctets, searchList, placeAt};
 ghost use Rattle.gemthatch.specs.Claims.{Claims};
 
 // What a walk hands out at a place: the bare refusal, how many records (1, or 0 for no more), and the record, all 0 where there is none.
@@ -40,7 +40,7 @@ pub struct Place {
 
 // The one number of an answer.
 fn over_c(refusal: u32, number: u32) -> u32
-    requires { ⌜ refusal ≤ 22 ⌝ }
+    requires { ⌜ refusal ≤ largest ⌝ }
     ensures { λ r. ⌜ r ≡ overC refusal number ⌝ }
 {
     if refusal == 0 {

@@ -3,12 +3,12 @@ use Prim.Native.Nat.{ℕ}
 use mathlib.Core.Path.{_≡_, refl}
 use mathlib.Core.Bool.{Bool, true, false, cond, not, _&&_, _||_, true≢false, false≢true}
 use mathlib.Core.List.{List, [], _∷_}
-use Rattle.octets.specs.Lists.{keep, every}
+use Rattle.octets.specs.Lists.{every}
 use Rattle.record.specs.declared.Rec.{Rec}
 use Rattle.series.specs.Series.{reserves}
 use Rattle.table.specs.declared.Slot.{Slot}
 use Rattle.table.specs.declared.Slot.the-variants.{Free, Reusable, Taken}
-use Rattle.table.specs.Slots.{heldFar, stateBy}
+use Rattle.table.specs.Slots.{heldFar, stateBy, holders}
 use Rattle.table.specs.Steps.{holdsMore}
 
 -- the state where `any` says that far records reserve the slot already, and hs are the holders still to come
@@ -28,16 +28,12 @@ judged-end true = refl
 judged-end false = refl
 
 module _ (m1 slot : ℕ) (any : Bool) (r : Rec) (rs : List Rec) where
-  -- the records that reserve the slot
-  abbrev holders : List Rec → List Rec
-  holders = keep (λ x. reserves m1 x slot)
-
   -- a near holder settles it
-  pub judged-near : (holdsMore m1 slot any r && not (heldFar r)) ≡ true → judged any (holders (r ∷ rs)) ≡ Taken
+  pub judged-near : (holdsMore m1 slot any r && not (heldFar r)) ≡ true → judged any (holders m1 (r ∷ rs) slot) ≡ Taken
   unfolding judged stateBy holdsMore
   judged-near h = go any (reserves m1 r slot) (heldFar r) refl h
     where
-      go : (any a b : Bool) → heldFar r ≡ b → ((not (any && b) && a) && not b) ≡ true → judged any (cond a (r ∷ holders rs) (holders rs)) ≡ Taken
+      go : (any a b : Bool) → heldFar r ≡ b → ((not (any && b) && a) && not b) ≡ true → judged any (cond a (r ∷ holders m1 rs slot) (holders m1 rs slot)) ≡ Taken
       go true true false e h = rw e
       go false true false e h = rw e
       go true true true e h = absurd (false≢true h)
@@ -47,12 +43,12 @@ module _ (m1 slot : ℕ) (any : Bool) (r : Rec) (rs : List Rec) where
       go false false b e h = absurd (false≢true h)
 
   -- any other record is a far holder or none
-  pub judged-next : (holdsMore m1 slot any r && not (heldFar r)) ≡ false → judged any (holders (r ∷ rs)) ≡ judged (any || holdsMore m1 slot any r) (holders rs)
+  pub judged-next : (holdsMore m1 slot any r && not (heldFar r)) ≡ false → judged any (holders m1 (r ∷ rs) slot) ≡ judged (any || holdsMore m1 slot any r) (holders m1 rs slot)
   unfolding judged stateBy holdsMore
   judged-next h = go any (reserves m1 r slot) (heldFar r) refl h
     where
       go : (any a b : Bool) → heldFar r ≡ b → ((not (any && b) && a) && not b) ≡ false
-          → judged any (cond a (r ∷ holders rs) (holders rs)) ≡ judged (any || (not (any && b) && a)) (holders rs)
+          → judged any (cond a (r ∷ holders m1 rs slot) (holders m1 rs slot)) ≡ judged (any || (not (any && b) && a)) (holders m1 rs slot)
       go true true true e h = rw e
       go false true true e h = rw e
       go true true false e h = absurd (true≢false h)

@@ -22,9 +22,13 @@ unfoldable pub stateBy : List Rec → Slot
 stateBy [] = Free
 stateBy (r ∷ rs) = cond (every heldFar (r ∷ rs)) Reusable Taken
 
+-- the records of a table that reserve a slot
+abbrev pub holders : ℕ → List Rec → ℕ → List Rec
+holders m1 rs slot = keep (λ r. reserves m1 r slot) rs
+
 -- the state of a slot over the records of a table
 unfoldable pub slotState : ℕ → List Rec → ℕ → Slot
-slotState m1 rs slot = stateBy (keep (λ r. reserves m1 r slot) rs)
+slotState m1 rs slot = stateBy (holders m1 rs slot)
 
 -- what a slot state gives: the state; refused, its number alone. 11, 12 for a slot behind now, 13 above the limit
 unfoldable pub slotAnswer : Channel → ℕ → Slot

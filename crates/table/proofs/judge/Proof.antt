@@ -4,11 +4,9 @@ use mathlib.Core.Path.{_≡_, sym, _∙_}
 use native.Mathlib.Omega.{arith}
 use borrow.Author.Needs.{needs}
 use denote.Ref.{now}
-use Rattle.octets.specs.Lists.{keep}
-use Rattle.series.specs.Series.{reserves}
 use Rattle.sound.specs.Sound.{records}
 use Rattle.table.specs.Memory.{channel}
-use Rattle.table.specs.Slots.{slotState}
+use Rattle.table.specs.Slots.{holders, slotState}
 use Rattle.record.proofs.ToCome.{toCome, toCome-next, toCome-none}
 use Rattle.table.proofs.Slots.{judged, judged-start, judged-end, judged-near, judged-next}
 use Rattle.table.proofs.judge.Statement.{statement}
@@ -16,7 +14,7 @@ use Rattle.table.proofs.judge.Tie as tie
 
 abbrev Inv-loop : tie.InvT-loop
 Inv-loop s memory slot held any₀ i₀ any i =
-    slotState (s .m1) (records (channel s memory)) slot ≡ judged any (keep (λ r. reserves (s .m1) r slot) (toCome i held memory))
+    slotState (s .m1) (records (channel s memory)) slot ≡ judged any (holders (s .m1) (toCome i held memory) slot)
 
 abbrev μ-loop : tie.MeasureT-loop
 μ-loop s memory slot held any₀ i₀ any i = held - i
