@@ -12,10 +12,10 @@ use table::State;
 use tally::Tally;
 use walk::Handed;
 ghost use mathlib.Core.Path.{_≡_};
-ghost use mathlib.Core.List.{[], _++_};
-ghost use Prim.Native.Nat.{_+_, _*_, _≤_};
+ghost use mathlib.Core.List.{[]};
+ghost use Prim.Native.Nat.{_*_, _≤_};
 ghost use lib.ListN.{length, length as len, take};
-ghost use Rattle.octets.specs.Octets.{little, holdsOnly};
+ghost use Rattle.octets.specs.Octets.{holdsOnly};
 ghost use Rattle.octets.specs.Refusals.{firstOf};
 ghost use Rattle.codec.specs.NineOctets.{reading, writing};
 ghost use Rattle.codec.specs.Rates.{rateFound};
@@ -49,19 +49,6 @@ fn over_c(refusal: u32, number: u32) -> u32
     2000000000 + refusal
 }
 
-// Puts one number behind those that a wiped list holds already.
-fn put_number(list: &mut [u8], at: usize, x: u32)
-    requires { ⌜ at + 4 ≤ length (now list) ⌝ }
-    requires { ⌜ now list ≡ holdsOnly (length (now list)) (take at (now list)) ⌝ }
-    ensures { λ _. ⌜ now (list .exit) ≡ holdsOnly (length (now (list .entry))) (take at (now (list .entry)) ++ little 4 x) ⌝ }
-{
-    let o = octets::split(x);
-    list[at] = o[0];
-    list[at + 1] = o[1];
-    list[at + 2] = o[2];
-    list[at + 3] = o[3];
-}
-
 // Puts the first n numbers into a wiped list, four octets to each.
 fn put_numbers(list: &mut [u8], numbers: &[u32], n: usize)
     requires { ⌜ (n ≤ length (now numbers)) × (n * 4 ≤ length (now list)) ⌝ }
@@ -70,7 +57,9 @@ fn put_numbers(list: &mut [u8], numbers: &[u32], n: usize)
 {
     let mut i = 0;
     while i < n {
-        put_number(list, i * 4, numbers[i]);
+        let a = i * 4;
+        let e = a + 4;
+        octets::put_number(&mut list[a..e], 0, numbers[i]);
         i += 1;
     }
 }

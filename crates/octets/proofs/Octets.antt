@@ -1,14 +1,15 @@
 -- Laws of little-endian numbers, over the width. Assumes nothing.
 use Prim.Native.Nat.{ℕ, zero, suc, _+_, _*_, _/_, _%_, _^_, _<_, _≤_}
-use mathlib.Core.Path.{_≡_, refl, ap}
-use mathlib.Core.List.{List, [], _∷_}
-use native.Mathlib.Nat.{pow-suc, add-assoc}
-use native.Mathlib.Numerals.{add-one}
+use mathlib.Core.Path.{_≡_, refl, ap, _∙_}
+use mathlib.Core.List.{List, [], _∷_, _++_, append-nil}
+use native.Mathlib.Nat.{add-zero, pow-suc}
+use native.Mathlib.Numerals.{towards-numerals}
 use native.Mathlib.Omega.{arith}
 use lib.Dec.{lit<}
-use lib.ListN.{length, getD, take, drop}
-use lib.Seq.{drop-cons, getD-drop}
-use Rattle.octets.specs.Octets.{AreOctets, little, number, numberAt}
+use lib.ListN.{length, getD, set, take, drop, drop-of-length-le}
+use lib.Seq.{sets, length-sets, sets-eq, drop-cons, getD-drop}
+use borrow.Author.Tests.{le-leb, lt-leb}
+use Rattle.octets.specs.Octets.{AreOctets, little, number, numberAt, putAt}
 
 -- ---- AreOctets
 
@@ -60,33 +61,58 @@ little-number (b ∷ bs) h =
     let f : (b + 256 * number bs) % 256 ≡ b = omega arith in
     rw (e, f, little-number bs (λ i. h (suc i)))
 
--- ---- numberAt, octet by octet
+-- ---- numberAt
 
--- no octets say 0
-numberAt-zero : (m : List ℕ) (at : ℕ) → numberAt 0 m at ≡ 0
-unfolding numberAt number
-numberAt-zero m at = refl
+-- where the octets stand, what they say
+pub numberAt-in : (w : ℕ) (m : List ℕ) (at : ℕ) → at + w ≤ length m → numberAt w m at ≡ number (take w (drop at m))
+unfolding numberAt
+numberAt-in w m at h = rw (le-leb (at + w) (length m) h)
 
--- the lowest octet, and what the next ones say
-numberAt-suc : (w : ℕ) (m : List ℕ) (at : ℕ) → at < length m → numberAt (suc w) m at ≡ getD m at 0 + 256 * numberAt w m (at + 1)
-unfolding numberAt number
-numberAt-suc w m at h = rw (add-one, drop-cons m at 0)
+-- else 0
+pub numberAt-out : (w : ℕ) (m : List ℕ) (at : ℕ) → length m < at + w → numberAt w m at ≡ 0
+unfolding numberAt
+numberAt-out w m at h = rw (lt-leb (at + w) (length m) h)
 
 -- one octet says itself
 pub numberAt-one : (m : List ℕ) (at : ℕ) → at + 1 ≤ length m → numberAt 1 m at ≡ getD m at 0
-numberAt-one m at h = rw (numberAt-suc 0 m at (omega arith), numberAt-zero) (omega arith)
+unfolding number
+numberAt-one m at h = numberAt-in 1 m at h ∙ rw (drop-cons m at 0 (omega arith)) (omega arith)
 
 -- four octets, one by one
 pub numberAt-four : (m : List ℕ) (at : ℕ) → at + 4 ≤ length m
     → numberAt 4 m at ≡ number (getD m at 0 ∷ getD m (at + 1) 0 ∷ getD m (at + 2) 0 ∷ getD m (at + 3) 0 ∷ [])
-unfolding number
 numberAt-four m at h =
-    rw (
-      numberAt-suc 3 m at (omega arith),
-      numberAt-suc 2 m (at + 1) (omega arith),
-      numberAt-suc 1 m (at + 1 + 1) (omega arith),
-      numberAt-suc 0 m (at + 1 + 1 + 1) (omega arith),
-      numberAt-zero,
-      add-assoc at 1 1,
-      add-assoc at 2 1,
-    )
+    numberAt-in 4 m at h
+    ∙ rw (drop-cons m at 0 (omega arith), drop-cons m (suc at) 0 (omega arith), drop-cons m (suc (suc at)) 0 (omega arith), drop-cons m (suc (suc (suc at))) 0 (omega arith))
+    (simp towards-numerals)
+
+-- ---- putAt
+
+-- where the octets stand, they are written
+pub putAt-in : (w : ℕ) (m : List ℕ) (at n : ℕ) → at + w ≤ length m → putAt w m at n ≡ sets m at (little w n)
+unfolding putAt
+putAt-in w m at n h = rw (le-leb (at + w) (length m) h)
+
+-- else nothing is
+pub putAt-out : (w : ℕ) (m : List ℕ) (at n : ℕ) → length m < at + w → putAt w m at n ≡ m
+unfolding putAt
+putAt-out w m at n h = rw (lt-leb (at + w) (length m) h)
+
+-- lists written one behind the other are one list
+sets-append : (m xs ys : List ℕ) (at : ℕ) → sets (sets m at xs) (at + length xs) ys ≡ sets m at (xs ++ ys)
+sets-append m [] ys at = rw add-zero
+sets-append m (x ∷ xs) ys at =
+    let e : at + suc (length xs) ≡ suc at + length xs = omega arith in
+    rw e (sets-append (set m at x) xs ys (suc at))
+
+-- so is a number written behind a list
+pub putAt-behind : (w : ℕ) (m xs : List ℕ) (at n : ℕ) → at + length xs + w ≤ length m → putAt w (sets m at xs) (at + length xs) n ≡ sets m at (xs ++ little w n)
+putAt-behind w m xs at n h = putAt-in w (sets m at xs) (at + length xs) n (rw length-sets h) ∙ sets-append m xs (little w n) at
+
+-- a number written over all of its octets
+pub putAt-whole : (w : ℕ) (m : List ℕ) (n : ℕ) → length m ≡ w → putAt w m 0 n ≡ little w n
+putAt-whole w m n e =
+    let l = length-little w n in
+    putAt-in w m 0 n (omega arith)
+    ∙ sets-eq (little w n) m 0 (omega arith)
+    ∙ rw (drop-of-length-le m {i = 0 + length (little w n)} (omega arith)) (append-nil (little w n))

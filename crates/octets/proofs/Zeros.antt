@@ -8,7 +8,7 @@ use native.Mathlib.Omega.{arith}
 use lib.Dec.{eqb}
 use borrow.Author.Tests.{eqb-true}
 use lib.ListN.{length, getD, take, drop, set, replicate, length-append, length-replicate, replicate-append-replicate, drop-of-length-le, take-append-drop}
-use lib.Seq.{drop-cons, set-at, length-take-le}
+use lib.Seq.{sets, drop-cons, set-at, length-take-le}
 use Rattle.octets.specs.Octets.{zeros, zeroFrom, holdsOnly}
 
 -- ---- zeros
@@ -65,3 +65,10 @@ pub set-holdsOnly : (places : ℕ) (xs : List ℕ) (n s : ℕ) → n ≡ length 
 set-holdsOnly places xs n s e h =
     let k : places - length xs ≡ suc (places - (length xs + 1)) = omega arith in
     rw (length-append, k, set-at xs 0 (replicate (places - (length xs + 1)) 0) s n (sym e), append-assoc)
+
+-- and so are as many as there are more
+pub sets-holdsOnly : (places : ℕ) (xs ys : List ℕ) (n : ℕ) → n ≡ length xs → n + length ys ≤ places → sets (holdsOnly places xs) n ys ≡ holdsOnly places (xs ++ ys)
+sets-holdsOnly places xs [] n e h = rw append-nil
+sets-holdsOnly places xs (y ∷ ys) n e h =
+    let l : suc n ≡ length (xs ++ (y ∷ [])) = rw length-append (omega arith) in
+    rw (set-holdsOnly places xs n y e (omega arith), sets-holdsOnly places (xs ++ (y ∷ [])) ys (suc n) l (omega arith)) (simp append-assoc)

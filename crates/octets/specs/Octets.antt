@@ -1,9 +1,10 @@
 -- Little-endian numbers, over the width, and octets that are 0.
 use Prim.Native.Nat.{ℕ, zero, suc, _+_, _-_, _*_, _/_, _%_, _<_}
-use mathlib.Core.Bool.{Bool}
+use mathlib.Core.Bool.{Bool, cond}
 use mathlib.Core.List.{List, [], _∷_, _++_}
-use lib.Dec.{eqb}
+use lib.Dec.{leb, eqb}
 use lib.ListN.{length, getD, take, drop, replicate}
+use lib.Seq.{sets}
 use Rattle.octets.specs.Lists.{every}
 
 -- every element is an octet: what the language says of each slice of octets
@@ -20,9 +21,17 @@ unfoldable pub number : List ℕ → ℕ
 number [] = 0
 number (b ∷ bs) = b + 256 * number bs
 
--- the number in the w octets from a place on
+-- w octets stand in a memory from a place on
+abbrev pub stand : ℕ → List ℕ → ℕ → Bool
+stand w m at = leb (at + w) (length m)
+
+-- the number in the w octets from a place on; 0 where they don't all stand there
 unfoldable pub numberAt : ℕ → List ℕ → ℕ → ℕ
-numberAt w m at = number (take w (drop at m))
+numberAt w m at = cond (stand w m at) (number (take w (drop at m))) 0
+
+-- a memory with a number written over the w octets from a place on; where they don't all stand there, as it was
+unfoldable pub putAt : ℕ → List ℕ → ℕ → ℕ → List ℕ
+putAt w m at n = cond (stand w m at) (sets m at (little w n)) m
 
 -- every octet is 0
 abbrev pub zeros : List ℕ → Bool

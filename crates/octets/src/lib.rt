@@ -3,7 +3,7 @@ ghost use mathlib.Core.Path.{_≡_};
 ghost use Prim.Native.Nat.{_<_};
 ghost use mathlib.Core.List.{_∷_, []};
 ghost use lib.ListN.{drop};
-ghost use Rattle.octets.specs.Octets.{little, number, zeros, zeroFrom};
+ghost use Rattle.octets.specs.Octets.{little, number, numberAt, putAt, zeros, zeroFrom};
 ghost use Rattle.octets.specs.Complement.{signedOf};
 ghost use Rattle.octets.specs.Claims.{Claims};
 
@@ -14,14 +14,14 @@ fn wide(x: u8) -> u32
 }
 
 // The number that four octets say, the lowest first.
-pub fn join(a: u8, b: u8, c: u8, d: u8) -> u32
+fn join(a: u8, b: u8, c: u8, d: u8) -> u32
     ensures { λ r. ⌜ r ≡ number (a ∷ b ∷ c ∷ d ∷ []) ⌝ }
 {
     wide(a) + wide(b) * 256 + wide(c) * 65536 + wide(d) * 16777216
 }
 
 // The four octets of a number, the lowest first.
-pub fn split(x: u32) -> [u8; 4]
+fn split(x: u32) -> [u8; 4]
     ensures { λ r. ⌜ r ≡ little 4 x ⌝ }
 {
     let y = x / 256;
@@ -33,6 +33,57 @@ pub fn split(x: u32) -> [u8; 4]
         (z % 256) as u8,
         (v % 256) as u8,
     ]
+}
+
+// ---- numbers in lent octets: where they don't all stand there, 0 is read and nothing is written
+
+// The octet at a place.
+pub fn octet_at(memory: &[u8], at: usize) -> u8
+    ensures { λ r. ⌜ r ≡ numberAt 1 (now (memory .entry)) at ⌝ }
+{
+    if at < memory.len() {
+        return memory[at];
+    }
+    0
+}
+
+// The number in the four octets from a place on.
+pub fn number_at(memory: &[u8], at: usize) -> u32
+    ensures { λ r. ⌜ r ≡ numberAt 4 (now (memory .entry)) at ⌝ }
+{
+    if memory.len() < 4 {
+        return 0;
+    }
+    if memory.len() - 4 < at {
+        return 0;
+    }
+    join(memory[at], memory[at + 1], memory[at + 2], memory[at + 3])
+}
+
+// Writes over the octet at a place.
+pub fn put_octet(memory: &mut [u8], at: usize, x: u8)
+    ensures { λ _. ⌜ now (memory .exit) ≡ putAt 1 (now (memory .entry)) at x ⌝ }
+{
+    if at < memory.len() {
+        memory[at] = x;
+    }
+}
+
+// Writes a number over the four octets from a place on.
+pub fn put_number(memory: &mut [u8], at: usize, x: u32)
+    ensures { λ _. ⌜ now (memory .exit) ≡ putAt 4 (now (memory .entry)) at x ⌝ }
+{
+    if memory.len() < 4 {
+        return;
+    }
+    if memory.len() - 4 < at {
+        return;
+    }
+    let o = split(x);
+    memory[at] = o[0];
+    memory[at + 1] = o[1];
+    memory[at + 2] = o[2];
+    memory[at + 3] = o[3];
 }
 
 // The number that an octet says in two's complement.

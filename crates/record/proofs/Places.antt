@@ -1,15 +1,14 @@
 -- Laws of one record in a memory: what is read at its place, and what is written there. Assumes nothing.
-use Prim.Native.Nat.{ℕ, zero, suc, _+_, _*_, _%_, _<_, _≤_}
+use Prim.Native.Nat.{ℕ, zero, suc, _+_, _*_, _<_, _≤_}
 use mathlib.Core.Path.{_≡_, sym, ap, _∙_}
 use mathlib.Core.List.{List, [], _∷_, _++_, append-assoc, append-nil}
-use native.Mathlib.Nat.{mod-eq-of-lt, zero-add, add-assoc, add-comm, zero-mul, suc-mul}
-use native.Mathlib.Numerals.{towards-numerals}
+use native.Mathlib.Nat.{zero-add, add-assoc, add-comm, zero-mul, suc-mul}
 use native.Mathlib.Omega.{arith}
 use borrow.Author.Tests.{lt-ltb, le-ltb}
-use lib.ListN.{length, getD, take, drop, set, length-drop}
+use lib.ListN.{length, getD, take, drop, set, length-drop, drop-of-length-le}
 use lib.Seq.{drop-at, take-add, drop-drop, length-take-le, sets, sets-eq, length-sets}
-use Rattle.octets.specs.Octets.{AreOctets, little, number, numberAt}
-use Rattle.octets.proofs.Octets.{numberAt-one, numberAt-four}
+use Rattle.octets.specs.Octets.{AreOctets, little, numberAt, putAt}
+use Rattle.octets.proofs.Octets.{numberAt-in, putAt-behind}
 use Rattle.record.specs.declared.Rec.{Rec}
 use Rattle.record.specs.Record.{size, fields, made, littles, numbers, encode, decode, blank, FitRec, image, capacity, views, view, put}
 use Rattle.record.proofs.Fields.{length-encode, decode-encode, decode-take}
@@ -25,41 +24,34 @@ getD-views (suc n) m zero d h = rw zero-mul
 getD-views (suc n) m (suc i) d h =
     rw (getD-views n (drop size m) i d (omega arith), drop-drop (i * size) size m, suc-mul i size, add-comm size (i * size))
 
--- its numbers, each at its place
-at-view : (m : List ℕ) (i : ℕ) → i < capacity m
-    → getD (view m) i blank ≡ made (
-    numberAt 4 m (i * size)
-    ∷ numberAt 4 m (i * size + 4)
-    ∷ numberAt 1 m (i * size + 4 + 4)
-    ∷ numberAt 1 m (i * size + 4 + 4 + 1)
-    ∷ numberAt 1 m (i * size + 4 + 4 + 1 + 1)
-    ∷ numberAt 1 m (i * size + 4 + 4 + 1 + 1 + 1)
-    ∷ []
-    )
-unfolding view decode numbers numberAt
-at-view m i h = getD-views (capacity m) m i blank h ∙ ap made (simp drop-drop)
+-- so of all records: its octets are a part of the memory
+pub decode-part : (m : List ℕ) (i : ℕ) → i < capacity m → decode (take size (drop (i * size) m)) ≡ getD (view m) i blank
+unfolding view
+decode-part m i h =
+    let l : size ≤ length (drop (i * size) m) = rw length-drop (unfold capacity size in omega arith) in
+    ap decode (sym (append-nil (take size (drop (i * size) m)))) ∙ decode-take (drop (i * size) m) [] l ∙ sym (getD-views (capacity m) m i blank h)
 
--- the same, octet by octet
-pub at-octets : (m : List ℕ) (i : ℕ) → i * 12 + 12 ≤ length m
-    → getD (view m) i blank ≡ record {
-      station = number (getD m (i * 12) 0 ∷ getD m (i * 12 + 1) 0 ∷ getD m (i * 12 + 2) 0 ∷ getD m (i * 12 + 3) 0 ∷ []);
-      first = number (getD m (i * 12 + 4) 0 ∷ getD m (i * 12 + 5) 0 ∷ getD m (i * 12 + 6) 0 ∷ getD m (i * 12 + 7) 0 ∷ []);
-      rate = getD m (i * 12 + 8) 0;
-      superframes = getD m (i * 12 + 9) 0;
-      length = getD m (i * 12 + 10) 0;
-      far = getD m (i * 12 + 11) 0;
+-- one record's numbers, each at its place
+pub decode-at : (s : List ℕ) → length s ≡ size
+    → decode s ≡ record {
+      station = numberAt 4 s 0;
+      first = numberAt 4 s 4;
+      rate = numberAt 1 s 8;
+      superframes = numberAt 1 s 9;
+      length = numberAt 1 s 10;
+      far = numberAt 1 s 11;
     }
-unfolding size made
-at-octets m i h =
-    let a = i * 12 in
-    let k : i < capacity m = unfold capacity size in omega arith in
-    let e₁ = numberAt-four m a (omega arith) in
-    let e₂ = simp add-assoc at (numberAt-four m (a + 4) (omega arith)) in
-    let e₃ = simp add-assoc at (numberAt-one m (a + 4 + 4) (omega arith)) in
-    let e₄ = simp add-assoc at (numberAt-one m (a + 4 + 4 + 1) (omega arith)) in
-    let e₅ = simp add-assoc at (numberAt-one m (a + 4 + 4 + 1 + 1) (omega arith)) in
-    let e₆ = simp add-assoc at (numberAt-one m (a + 4 + 4 + 1 + 1 + 1) (omega arith)) in
-    at-view m i k ∙ simp (add-assoc, e₁, e₂, e₃, e₄, e₅, e₆)
+unfolding decode numbers made size
+decode-at s l =
+    rw (
+      numberAt-in 4 s 0 (omega arith),
+      numberAt-in 4 s 4 (omega arith),
+      numberAt-in 1 s 8 (omega arith),
+      numberAt-in 1 s 9 (omega arith),
+      numberAt-in 1 s 10 (omega arith),
+      numberAt-in 1 s 11 (omega arith),
+    )
+    (rw (drop-drop 4 4 s, drop-drop 1 8 s, drop-drop 1 9 s, drop-drop 1 10 s))
 
 -- ---- writing record i
 
@@ -117,30 +109,30 @@ put-end m i r h e l =
     put-at m i r l ∙ sets-encode m i r l
     ∙ rw (image-append, append-nil, image-take m h e i (omega arith), append-assoc)
 
--- ---- writing octet by octet
-
--- single octets written at their places, in order
-abbrev pub writes : List (ℕ × ℕ) → List ℕ → List ℕ
-writes [] m = m
-writes (w ∷ ws) m = writes ws (set m (w .0) (w .1))
-
--- twelve such writes put a record's octets
-pub writes-octets : (m : List ℕ) (a : ℕ) (r : Rec) (s f : List ℕ) → FitRec r → s ≡ little 4 (r .station) → f ≡ little 4 (r .first)
-    → writes
-    ((a, getD s 0 0) ∷ (a + 1, getD s 1 0) ∷ (a + 2, getD s 2 0) ∷ (a + 3, getD s 3 0)
-    ∷ (a + 4, getD f 0 0) ∷ (a + 5, getD f 1 0) ∷ (a + 6, getD f 2 0) ∷ (a + 7, getD f 3 0)
-    ∷ (a + 8, r .rate) ∷ (a + 9, r .superframes) ∷ (a + 10, r .length) ∷ (a + 11, r .far) ∷ [])
-    m
-    ≡ sets m a (encode r)
-unfolding fields littles encode little
-writes-octets m a r s f h e₁ e₂ =
-    let h₁ : r .rate % 256 ≡ r .rate = mod-eq-of-lt (h .1 .1 .0) in
-    let h₂ : r .superframes % 256 ≡ r .superframes = mod-eq-of-lt (h .1 .1 .1 .0) in
-    let h₃ : r .length % 256 ≡ r .length = mod-eq-of-lt (h .1 .1 .1 .1 .0) in
-    let h₄ : r .far % 256 ≡ r .far = mod-eq-of-lt (h .1 .1 .1 .1 .1 .0) in
-    rw (e₁, e₂) (simp (towards-numerals, h₁, h₂, h₃, h₄))
+-- one record's numbers, each written at its place
+pub encode-at : (s : List ℕ) (r : Rec) → length s ≡ size
+    → putAt 1 (putAt 1 (putAt 1 (putAt 1 (putAt 4 (putAt 4 s 0 (r .station)) 4 (r .first)) 8 (r .rate)) 9 (r .superframes)) 10 (r .length)) 11 (r .far) ≡ encode r
+unfolding encode fields littles little size
+encode-at s r l =
+    let x₁ = little 4 (r .station) in
+    let x₂ = x₁ ++ little 4 (r .first) in
+    let x₃ = x₂ ++ little 1 (r .rate) in
+    let x₄ = x₃ ++ little 1 (r .superframes) in
+    let x₅ = x₄ ++ little 1 (r .length) in
+    let x₆ = x₅ ++ little 1 (r .far) in
+    rw (
+      putAt-behind 4 s [] 0 (r .station) (omega arith),
+      putAt-behind 4 s x₁ 0 (r .first) (omega arith),
+      putAt-behind 1 s x₂ 0 (r .rate) (omega arith),
+      putAt-behind 1 s x₃ 0 (r .superframes) (omega arith),
+      putAt-behind 1 s x₄ 0 (r .length) (omega arith),
+      putAt-behind 1 s x₅ 0 (r .far) (omega arith),
+    )
+    (sets-eq x₆ s 0 (omega arith) ∙ rw (drop-of-length-le s {i = 12} (omega arith)))
 
 -- what a store of record i promises
-pub put-stored : (x m : List ℕ) (i : ℕ) (r : Rec) → FitRec r → i < capacity m → x ≡ sets m (i * size) (encode r)
+pub put-stored : (x m : List ℕ) (i : ℕ) (r : Rec) → FitRec r → i < capacity m → x ≡ take (i * size) m ++ (encode r ++ drop (i * size + size) m)
     → (x ≡ put m i r) × (view x ≡ set (view m) i r)
-put-stored x m i r h l e = (e ∙ sym (put-at m i r l), ap view e ∙ set-view m i r h l)
+put-stored x m i r h l p =
+    let e = p ∙ sym (sets-encode m i r l) in
+    (e ∙ sym (put-at m i r l), ap view e ∙ set-view m i r h l)

@@ -3,7 +3,7 @@ ghost use mathlib.Core.Path.{_≡_};
 ghost use Prim.Native.Nat.{_+_, _*_, _≤_, min};
 ghost use lib.ListN.{length, getD, set, take};
 ghost use Rattle.octets.specs.Octets.{zeros};
-ghost use Rattle.record.specs.Record.{blank, whole, capacity, rest, clearAfter, view, put};
+ghost use Rattle.record.specs.Record.{encode, decode, blank, whole, capacity, rest, clearAfter, view, put};
 ghost use Rattle.record.specs.Claims.{Claims};
 
 // The octets of a record.
@@ -20,43 +20,53 @@ pub struct Rec {
     pub far: u8,
 }
 
-// Record i of those that the memory has room for.
+// The record that the octets of one say.
+fn decoded(s: &[u8]) -> Rec
+    requires { ⌜ length (now s) ≡ 12 ⌝ }
+    ensures { λ r. ⌜ r ≡ decode (now (s .entry)) ⌝ }
+{
+    Rec {
+        station: octets::number_at(s, 0),
+        first: octets::number_at(s, 4),
+        rate: octets::octet_at(s, 8),
+        superframes: octets::octet_at(s, 9),
+        length: octets::octet_at(s, 10),
+        far: octets::octet_at(s, 11),
+    }
+}
+
+// Writes r over the octets of one record.
+fn encode_over(s: &mut [u8], r: Rec)
+    requires { ⌜ length (now s) ≡ 12 ⌝ }
+    ensures { λ _. ⌜ now (s .exit) ≡ encode r ⌝ }
+{
+    octets::put_number(s, 0, r.station);
+    octets::put_number(s, 4, r.first);
+    octets::put_octet(s, 8, r.rate);
+    octets::put_octet(s, 9, r.superframes);
+    octets::put_octet(s, 10, r.length);
+    octets::put_octet(s, 11, r.far);
+}
+
+// Record i of those that the memory has room for. Its octets are a part of the memory, of a length that the compiler knows.
 fn load_at(memory: &[u8], i: usize) -> Rec
     requires { ⌜ i * 12 + 12 ≤ length (now memory) ⌝ }
     ensures { λ r. ⌜ r ≡ getD (view (now (memory .entry))) i blank ⌝ }
 {
     let a = i * SIZE;
-    Rec {
-        station: octets::join(memory[a], memory[a + 1], memory[a + 2], memory[a + 3]),
-        first: octets::join(memory[a + 4], memory[a + 5], memory[a + 6], memory[a + 7]),
-        rate: memory[a + 8],
-        superframes: memory[a + 9],
-        length: memory[a + 10],
-        far: memory[a + 11],
-    }
+    let e = a + SIZE;
+    decoded(&memory[a..e])
 }
 
-// Writes r over record i of those that the memory has room for. All of r is at hand before the first octet is written.
+// Writes r over record i of those that the memory has room for.
 fn store_at(memory: &mut [u8], i: usize, r: Rec)
     requires { ⌜ i * 12 + 12 ≤ length (now memory) ⌝ }
     ensures octets { λ _. ⌜ now (memory .exit) ≡ put (now (memory .entry)) i r ⌝ }
     ensures records { λ _. ⌜ view (now (memory .exit)) ≡ set (view (now (memory .entry))) i r ⌝ }
 {
     let a = i * SIZE;
-    let s = octets::split(r.station);
-    let f = octets::split(r.first);
-    memory[a] = s[0];
-    memory[a + 1] = s[1];
-    memory[a + 2] = s[2];
-    memory[a + 3] = s[3];
-    memory[a + 4] = f[0];
-    memory[a + 5] = f[1];
-    memory[a + 6] = f[2];
-    memory[a + 7] = f[3];
-    memory[a + 8] = r.rate;
-    memory[a + 9] = r.superframes;
-    memory[a + 10] = r.length;
-    memory[a + 11] = r.far;
+    let e = a + SIZE;
+    encode_over(&mut memory[a..e], r);
 }
 
 // Whether a memory is a whole number of records.

@@ -11,7 +11,7 @@ use borrow.Author.Tests.{eqb-true, eqb-false, ne-eqb, not-true}
 use Rattle.octets.specs.Lists.{keep, has}
 use Rattle.octets.specs.Refusals.{firstOf}
 use Rattle.octets.proofs.Lists.{keep-comm, keep-sub, keep-append, keep-map, map-keep, has-keep, length-keep}
-use Rattle.octets.proofs.Refusals.{firstOf-last, by-test, answer-elim, answer-map}
+use Rattle.octets.proofs.Refusals.{firstOf-last, answer-elim, answer-map}
 use Rattle.distance.specs.Distances.{isFar}
 use Rattle.record.specs.declared.Rec.{Rec}
 use Rattle.sound.specs.Sound.{lasts}

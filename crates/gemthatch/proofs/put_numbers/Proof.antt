@@ -1,13 +1,15 @@
 -- `gemthatch::put_numbers` meets its contract: the list holds the octets of the numbers as far as the loop has come. Assumes nothing.
-use Prim.Native.Nat.{_-_, _≤_}
+use Prim.Native.Nat.{_+_, _-_, _*_, _≤_}
 use native.Mathlib.Omega.{arith}
-use mathlib.Core.Path.{_≡_, refl, sym, ap, _∙_}
+use mathlib.Core.Path.{_≡_, refl, _∙_}
 use denote.Ref.{now}
-use lib.ListN.{length, take}
+use lib.ListN.{length, getD, take, drop, length-take, length-drop}
+use borrow.Rule.Slice.PartMut.{same-len-mid, post-is}
 use borrow.Author.Needs.{needs}
 use Rattle.octets.specs.Octets.{holdsOnly}
+use Rattle.octets.proofs.Octets.{putAt-whole}
 use Rattle.gemthatch.specs.OverC.{inOctets}
-use Rattle.gemthatch.proofs.Put.{held-front, inOctets-next}
+use Rattle.gemthatch.proofs.Put.{put-next}
 use Rattle.gemthatch.proofs.put_numbers.Statement.{statement}
 use Rattle.gemthatch.proofs.put_numbers.Tie as tie
 
@@ -21,22 +23,29 @@ abbrev μ-loop : tie.MeasureT-loop
 loop-holds : tie.Need-loop-holds Inv-loop μ-loop
 loop-holds c = (search needs, refl, c .before .before .pre .1)
 
+mul-a : tie.Need-mul-a Inv-loop μ-loop
+mul-a c = search needs
+
+add-e : tie.Need-add-e Inv-loop μ-loop
+add-e c = search needs
+
+sub-put-number : tie.Need-sub-put-number Inv-loop μ-loop
+sub-put-number c = search needs
+
+part-put-number-start : tie.Need-part-put-number-start Inv-loop μ-loop
+part-put-number-start c = search needs
+
+part-put-number-end : tie.Need-part-put-number-end Inv-loop μ-loop
+part-put-number-end c = search needs
+
 mul-put-number : tie.Need-mul-put-number Inv-loop μ-loop
 mul-put-number c = search needs
-
-mul-put-number-2 : tie.Need-mul-put-number-2 Inv-loop μ-loop
-mul-put-number-2 c = search needs
 
 shared-slice-read-put-number : tie.Need-shared-slice-read-put-number Inv-loop μ-loop
 shared-slice-read-put-number c = search needs
 
 put-number-requires : tie.Need-put-number-requires Inv-loop μ-loop
-put-number-requires c κs =
-    let h = c .before .before .before in
-    let a = h .before .before .before .args in
-    let inv = h .loop .inv in
-    let f = held-front (length (now (a .list))) (h .loop .i) (now (a .numbers)) (h .loop .list) (omega arith) (inv .2) in
-    (rw (inv .1) (omega arith), rw (f, inv .1) (inv .2))
+put-number-requires c κs = search needs
 
 add-i : tie.Need-add-i Inv-loop μ-loop
 add-i c = search needs
@@ -47,14 +56,18 @@ loop-less c = search needs
 loop-again : tie.Need-loop-again Inv-loop μ-loop
 loop-again c =
     let h = c .before .before .before .before .before .before in
-    let a = h .before .before .before .args in
+    let args = h .before .before .before .args in
     let inv = h .loop .inv in
     let p = c .before .before .put-number in
+    let list = h .loop .list in
     let i = h .loop .i in
-    let f = held-front (length (now (a .list))) i (now (a .numbers)) (h .loop .list) (omega arith) (inv .2) in (
+    let a = i * 4 in
+    let part = take (a + 4 - a) (drop a list) in
+    let four : length part ≡ 4 = simp (length-take, length-drop) (omega arith) in (
       omega arith,
-      p .kept .0 ∙ inv .1,
-      p .ensures ∙ rw (f, inv .1) (ap (holdsOnly (length (now (a .list)))) (sym (inOctets-next i (now (a .numbers)) (omega arith)))),
+      same-len-mid a (a + 4 - a) list (p .last .0) (p .kept .0) ∙ inv .1,
+      rw (p .ensures, putAt-whole 4 part (getD (now (args .numbers)) i 0) four, post-is a (a + 4) list (omega arith))
+          (put-next (length (now (args .list))) i (now (args .numbers)) list (omega arith) (omega arith) (inv .1) (inv .2)),
     )
 
 same-length : tie.Need-same-length Inv-loop μ-loop
@@ -73,8 +86,12 @@ put-numbers-spec =
     Inv-loop
     μ-loop
     loop-holds
+    mul-a
+    add-e
+    sub-put-number
+    part-put-number-start
+    part-put-number-end
     mul-put-number
-    mul-put-number-2
     shared-slice-read-put-number
     put-number-requires
     add-i

@@ -1,0 +1,51 @@
+-- `record::decoded` meets its contract: each number stands at its place. Assumes nothing.
+use denote.Ref.{now}
+use borrow.Author.Needs.{needs}
+use Rattle.record.specs.Record.{size}
+use Rattle.record.proofs.Places.{decode-at}
+use Rattle.record.proofs.decoded.Statement.{statement}
+use Rattle.record.proofs.decoded.Tie as tie
+
+number-at-requires : tie.Need-number-at-requires
+number-at-requires c κs = search needs
+
+number-at-requires-2 : tie.Need-number-at-requires-2
+number-at-requires-2 c κs = search needs
+
+octet-at-requires : tie.Need-octet-at-requires
+octet-at-requires c κs = search needs
+
+octet-at-requires-2 : tie.Need-octet-at-requires-2
+octet-at-requires-2 c κs = search needs
+
+octet-at-requires-3 : tie.Need-octet-at-requires-3
+octet-at-requires-3 c κs = search needs
+
+octet-at-requires-4 : tie.Need-octet-at-requires-4
+octet-at-requires-4 c κs = search needs
+
+returns : tie.Need-returns
+unfolding size
+returns c =
+    let s = c .before .before .before .before .before .before .before in
+    rw (
+      decode-at (now (s .args .s)) (s .pre),
+      c .before .before .before .before .before .number-at .ensures,
+      c .before .before .before .before .number-at2 .ensures,
+      c .before .before .before .octet-at .ensures,
+      c .before .before .octet-at2 .ensures,
+      c .before .octet-at3 .ensures,
+      c .octet-at4 .ensures,
+    )
+
+pub decoded-spec : {M : Type 1} → statement M
+decoded-spec =
+    tie.close
+    (tie.spec
+    number-at-requires
+    number-at-requires-2
+    octet-at-requires
+    octet-at-requires-2
+    octet-at-requires-3
+    octet-at-requires-4
+    returns)

@@ -1,0 +1,62 @@
+-- `record::encode_over` meets its contract: each number is written at its place. Assumes nothing.
+use mathlib.Core.Path.{_∙_}
+use denote.Ref.{now}
+use borrow.Author.Needs.{needs}
+use Rattle.record.specs.Record.{size}
+use Rattle.record.proofs.Places.{encode-at}
+use Rattle.record.proofs.encode_over.Statement.{statement}
+use Rattle.record.proofs.encode_over.Tie as tie
+
+put-number-requires : tie.Need-put-number-requires
+put-number-requires c κs = search needs
+
+put-number-requires-2 : tie.Need-put-number-requires-2
+put-number-requires-2 c κs = search needs
+
+put-octet-requires : tie.Need-put-octet-requires
+put-octet-requires c κs = search needs
+
+put-octet-requires-2 : tie.Need-put-octet-requires-2
+put-octet-requires-2 c κs = search needs
+
+put-octet-requires-3 : tie.Need-put-octet-requires-3
+put-octet-requires-3 c κs = search needs
+
+put-octet-requires-4 : tie.Need-put-octet-requires-4
+put-octet-requires-4 c κs = search needs
+
+same-length : tie.Need-same-length
+same-length c = search needs
+
+returns : tie.Need-returns
+unfolding size
+returns c =
+    let at-far = c .before .before in
+    let at-length = at-far .before .before .before .before in
+    let at-superframes = at-length .before .before .before .before in
+    let at-rate = at-superframes .before .before .before .before in
+    let at-first = at-rate .before .before .before .before in
+    let at-station = at-first .before .before .before .before in
+    let s = at-station .before .before .before in
+    at-far .put-octet4 .ensures
+    ∙ rw (
+      at-length .put-octet3 .ensures,
+      at-superframes .put-octet2 .ensures,
+      at-rate .put-octet .ensures,
+      at-first .put-number2 .ensures,
+      at-station .put-number .ensures,
+    )
+    (encode-at (now (s .args .s)) (s .args .r) (s .pre))
+
+pub encode-over-spec : {M : Type 1} → statement M
+encode-over-spec =
+    tie.close
+    (tie.spec
+    put-number-requires
+    put-number-requires-2
+    put-octet-requires
+    put-octet-requires-2
+    put-octet-requires-3
+    put-octet-requires-4
+    same-length
+    returns)
