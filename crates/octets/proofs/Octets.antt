@@ -1,13 +1,13 @@
 -- Laws of little-endian numbers, over the width. Assumes nothing.
 use Prim.Native.Nat.{ℕ, zero, suc, _+_, _*_, _/_, _%_, _^_, _<_, _≤_}
 use mathlib.Core.Path.{_≡_, refl, ap, _∙_}
-use mathlib.Core.List.{List, [], _∷_, _++_, append-nil}
+use mathlib.Core.List.{List, [], _∷_, _++_, append-assoc, append-nil}
 use native.Mathlib.Nat.{add-zero, pow-suc}
 use native.Mathlib.Numerals.{towards-numerals}
 use native.Mathlib.Omega.{arith}
 use lib.Dec.{lit<}
 use lib.ListN.{length, getD, set, take, drop, drop-of-length-le}
-use lib.Seq.{sets, length-sets, sets-eq, drop-cons, getD-drop}
+use lib.Seq.{sets, length-sets, sets-eq, take-at, drop-at, drop-cons, getD-drop, length-take-le}
 use borrow.Author.Tests.{le-leb, lt-leb}
 use Rattle.octets.specs.Octets.{AreOctets, little, number, numberAt, putAt}
 
@@ -116,3 +116,14 @@ putAt-whole w m n e =
     putAt-in w m 0 n (omega arith)
     ∙ sets-eq (little w n) m 0 (omega arith)
     ∙ rw (drop-of-length-le m {i = 0 + length (little w n)} (omega arith)) (append-nil (little w n))
+
+-- what was written is read
+pub numberAt-putAt : (w : ℕ) (m : List ℕ) (at n : ℕ) → at + w ≤ length m → n < 256 ^ w → numberAt w (putAt w m at n) at ≡ n
+numberAt-putAt w m at n h fits =
+    let l = length-little w n in
+    let front : length (take at m) ≡ at = length-take-le at m (omega arith) in
+    let rest = drop (at + length (little w n)) m in
+    let e : sets m at (little w n) ≡ take at m ++ (little w n ++ rest) = sets-eq (little w n) m at (omega arith) ∙ append-assoc (take at m) (little w n) rest in
+    ap (λ x. numberAt w x at) (putAt-in w m at n h)
+    ∙ numberAt-in w (sets m at (little w n)) at (rw length-sets h)
+    ∙ rw (e, drop-at (take at m) (little w n ++ rest) at front, take-at (little w n) rest w l) (number-little w n fits)

@@ -1,12 +1,12 @@
 -- What is claimed of little-endian numbers, at every width, and of two's complement. `claims` in src/lib.rt promises all of it.
-use Prim.Native.Nat.{ℕ, _^_, _<_}
+use Prim.Native.Nat.{ℕ, _+_, _^_, _<_, _≤_}
 use mathlib.Core.Path.{_≡_}
 use mathlib.Core.Bool.{false}
 use mathlib.Core.List.{List}
 use lib.IntN.{ℤ}
 use lib.Dec.{eqb}
 use lib.ListN.{length}
-use Rattle.octets.specs.Octets.{AreOctets, little, number}
+use Rattle.octets.specs.Octets.{AreOctets, little, number, numberAt, putAt}
 use Rattle.octets.specs.Complement.{signedOf, twosOf, badOffset}
 
 pub record Claims : Type 0 where
@@ -19,6 +19,8 @@ pub record Claims : Type 0 where
   pub written-octets : (w n : ℕ) → AreOctets (little w n)
   -- what w octets say is below 256 to the w
   pub read-bound : (bs : List ℕ) → AreOctets bs → number bs < 256 ^ length bs
+  -- in lent octets, what was written at a place is read there
+  pub put-is-read : (w : ℕ) (m : List ℕ) (at n : ℕ) → at + w ≤ length m → n < 256 ^ w → numberAt w (putAt w m at n) at ≡ n
   -- two's complement: a number of -127..127 comes back from its octet, an octet from its number, and of the octets only 128 says a number outside
   pub twos-is-signed : (z : ℤ) → badOffset z ≡ false → signedOf (twosOf z) ≡ z
   pub signed-is-twos : (n : ℕ) → n < 256 → twosOf (signedOf n) ≡ n

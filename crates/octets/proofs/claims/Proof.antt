@@ -1,5 +1,5 @@
 -- `octets::claims` promises what the laws prove. Assumes nothing.
-use Rattle.octets.proofs.Octets.{number-little, little-number, length-little, are-octets-little, number-bound}
+use Rattle.octets.proofs.Octets.{number-little, little-number, length-little, are-octets-little, number-bound, numberAt-putAt}
 use Rattle.octets.proofs.Complement.{signed-twos, twos-signed, octet-offset}
 use Rattle.octets.proofs.claims.Statement.{statement}
 use Rattle.octets.proofs.claims.Tie as tie
@@ -12,6 +12,7 @@ returns c =
       written-length = length-little;
       written-octets = are-octets-little;
       read-bound = number-bound;
+      put-is-read = numberAt-putAt;
       twos-is-signed = signed-twos;
       signed-is-twos = twos-signed;
       only-128 = octet-offset;
