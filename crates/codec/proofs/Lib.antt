@@ -2,3 +2,4 @@ pub mod Cases
 pub mod Tests
 pub mod RoundTrips
 pub mod Rates
+pub mod Parameters

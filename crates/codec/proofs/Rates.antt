@@ -11,7 +11,7 @@ use Rattle.octets.specs.Lists.{every}
 use Rattle.octets.specs.Refusals.{firstOf}
 use Rattle.octets.proofs.Refusals.{answer-refused, answer-accepted, by-test, or-eq-false}
 use Rattle.codec.specs.NineOctets.{badCode}
-use Rattle.codec.specs.Rates.{badList, rateTests, rateFound}
+use Rattle.codec.specs.Rates.{badList, rateTests, rateLookup}
 
 -- ---- a list that is not bad
 
@@ -77,7 +77,7 @@ module _ (rates : List ℕ) (code : ℕ) where
     rate-0 k z = simp (h, k, ne-eqb _ _ z)
 
     -- up to 15 the entry alone tells what is found
-    pub rate-entry : code ≤ 15 → record { refusal = cond (eqb (getD rates code 0) 0) 3 0; number = getD rates code 0 } ≡ rateFound rates code
+    pub rate-entry : code ≤ 15 → record { refusal = cond (eqb (getD rates code 0) 0) 3 0; number = getD rates code 0 } ≡ rateLookup rates code
     rate-entry l =
         by-test (eqb (getD rates code 0) 0)
         (λ e.

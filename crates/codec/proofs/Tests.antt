@@ -7,7 +7,7 @@ use native.Mathlib.Omega.{arith}
 use borrow.Author.Tests.{eq-eqb, ne-eqb, lt-leb, lt-ltb, le-ltb, leb-false, ltb-false, eqb-true, not-false}
 use lib.Dec.{eqb, leb, ltb}
 use lib.ListN.{length}
-use Rattle.octets.specs.Complement.{badOffset}
+use Rattle.octets.specs.Complement.{beyond127}
 use Rattle.octets.specs.Octets.{AreOctets}
 use Rattle.octets.specs.Refusals.{firstOf, outside}
 use Rattle.octets.proofs.Refusals.{firstOf-cons, firstOf-zero, firstOf-most, answer-accepted, answer-says, or-eq-false, outside-false}
@@ -52,11 +52,11 @@ module _ (b : Block) where
       field-5 l = simp (k, r, l)
 
       module _ (l : outside 2 255 (b .bs) ≡ false) where
-        pub field-6 : badOffset (b .bo) ≡ true → 6 ≡ firstOf (fieldTests b)
+        pub field-6 : beyond127 (b .bo) ≡ true → 6 ≡ firstOf (fieldTests b)
         unfolding fieldTests
         field-6 o = simp (k, r, l, o)
 
-        pub field-0 : badOffset (b .bo) ≡ false → 0 ≡ firstOf (fieldTests b)
+        pub field-0 : beyond127 (b .bo) ≡ false → 0 ≡ firstOf (fieldTests b)
         unfolding fieldTests
         field-0 o = simp (k, r, l, o)
 

@@ -5,7 +5,7 @@ use mathlib.Core.List.{List, [], _∷_, _++_}
 use lib.IntN.{pos}
 use lib.Dec.{ltb, leb, eqb}
 use lib.ListN.{length, getD, replicate}
-use Rattle.octets.specs.Complement.{signedOf, twosOf, badOffset}
+use Rattle.octets.specs.Complement.{signedOf, twosOf, beyond127}
 use Rattle.octets.specs.Refusals.{firstOf, answer, outside}
 use Rattle.codec.specs.declared.Block.{Block}
 use Rattle.codec.specs.declared.Reading.{Reading}
@@ -60,7 +60,7 @@ rangeTests b = (3, badCode (b .br)) ∷ (4, outside 2 255 (b .roff)) ∷ (5, out
 
 -- and then 6
 abbrev pub offsetTests : Block → List (ℕ × Bool)
-offsetTests b = (6, badOffset (b .bo)) ∷ []
+offsetTests b = (6, beyond127 (b .bo)) ∷ []
 
 unfoldable pub fieldTests : Block → List (ℕ × Bool)
 fieldTests b = rangeTests b ++ offsetTests b

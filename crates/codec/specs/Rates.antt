@@ -6,7 +6,7 @@ use lib.Dec.{leb, eqb}
 use lib.ListN.{length, getD}
 use Rattle.octets.specs.Lists.{every}
 use Rattle.octets.specs.Refusals.{firstOf, answer}
-use Rattle.codec.specs.declared.Found.{Found}
+use Rattle.codec.specs.declared.Lookup.{Lookup}
 use Rattle.codec.specs.NineOctets.{badCode}
 
 -- a length other than sixteen, an entry above 60, or one not 0 at 7, 14 or 15
@@ -23,9 +23,9 @@ unfoldable pub rateTests : List ℕ → ℕ → List (ℕ × Bool)
 rateTests rates code = (7, badList rates) ∷ (3, badCode code || eqb (getD rates code 0) 0) ∷ []
 
 -- a refused lookup gives 0
-abbrev pub refusedFound : ℕ → Found
-refusedFound n = record { refusal = n; number = 0 }
+abbrev pub refusedLookup : ℕ → Lookup
+refusedLookup n = record { refusal = n; number = 0 }
 
 -- what looking a code up gives
-abbrev pub rateFound : List ℕ → ℕ → Found
-rateFound rates code = answer (firstOf (rateTests rates code)) (record { refusal = 0; number = getD rates code 0 }) refusedFound
+abbrev pub rateLookup : List ℕ → ℕ → Lookup
+rateLookup rates code = answer (firstOf (rateTests rates code)) (record { refusal = 0; number = getD rates code 0 }) refusedLookup

@@ -4,13 +4,13 @@ ghost use mathlib.Core.Bool.{false, cond};
 ghost use mathlib.Core.List.{[], _∷_};
 ghost use lib.Dec.{leb, eqb};
 ghost use Rattle.octets.specs.Lists.{every};
-ghost use Rattle.octets.specs.Complement.{twosOf, badOffset};
+ghost use Rattle.octets.specs.Complement.{twosOf, beyond127};
 ghost use Rattle.octets.specs.Refusals.{firstOf};
 ghost use Rattle.codec.specs.NineOctets.{bits, badCode, fieldTests, writeTests, blockOf, octetsOf, reading, refusedReading, writing};
-ghost use Rattle.codec.specs.Rates.{badList, rateFound, refusedFound};
-ghost use Rattle.codec.specs.Parameters.{unknown, rowOf, parameterTests, defaultFound};
+ghost use Rattle.codec.specs.Rates.{badList, rateLookup, refusedLookup};
+ghost use Rattle.codec.specs.Parameters.{unknown, byRow, parameterTests, defaultLookup};
 ghost use Rattle.codec.specs.Claims.{Claims};
-ghost use Rattle.codec.specs.Steps.{Fitting};
+ghost use Rattle.codec.specs.Steps.{Fitting, columns};
 
 // ---- the nine octets
 
@@ -42,7 +42,7 @@ pub struct Writing {
 
 // The octet that says bo in two's complement.
 fn twos(bo: i32) -> u8
-    requires { ⌜ badOffset bo ≡ false ⌝ }
+    requires { ⌜ beyond127 bo ≡ false ⌝ }
     ensures { λ r. ⌜ r ≡ twosOf bo ⌝ }
 {
     if bo < 0 { (bo + 256) as u8 } else { bo as u8 }
@@ -227,15 +227,15 @@ pub fn write(b: Block) -> Writing
 // ---- the rates
 
 // What a lookup gives: the refusal, 0 for none, and the number found, 0 where it is refused.
-pub struct Found {
+pub struct Lookup {
     pub refusal: u32,
     pub number: u32,
 }
 
-fn refused_found(n: u32) -> Found
-    ensures { λ r. ⌜ r ≡ refusedFound n ⌝ }
+fn refused_lookup(n: u32) -> Lookup
+    ensures { λ r. ⌜ r ≡ refusedLookup n ⌝ }
 {
-    Found {
+    Lookup {
         refusal: n,
         number: 0,
     }
@@ -273,18 +273,18 @@ fn judge_entry(entry: u8) -> u32
 
 // The rate that a code stands for in a list of sixteen. Refused, in this order: 7, 3. A good list has 0 at 7, 14 and 15, so that the
 // entry tells of every code up to 15 whether it has a rate.
-pub fn rate(rates: &[u8], code: u32) -> Found
-    ensures { λ r. ⌜ r ≡ rateFound (now (rates .entry)) code ⌝ }
+pub fn rate(rates: &[u8], code: u32) -> Lookup
+    ensures { λ r. ⌜ r ≡ rateLookup (now (rates .entry)) code ⌝ }
 {
     if bad_list(rates) {
-        return refused_found(7);
+        return refused_lookup(7);
     }
     if 15 < code {
-        return refused_found(3);
+        return refused_lookup(3);
     }
     let entry = rates[code as usize];
     let n = judge_entry(entry);
-    Found {
+    Lookup {
         refusal: n,
         number: entry as u32,
     }
@@ -298,7 +298,7 @@ const PARAMETERS: [[u32; 4]; 3] = [[60, 15360, 4500, 60], [1, 256, 2, 1], [1, 65
 // The row of a parameter.
 fn row(number: u32) -> [u32; 4]
     requires { ⌜ unknown number ≡ false ⌝ }
-    ensures { λ r. ⌜ r ≡ rowOf number ⌝ }
+    ensures { λ r. ⌜ r ≡ byRow number columns [] ⌝ }
 {
     PARAMETERS[(number - 1) as usize]
 }
@@ -324,14 +324,14 @@ pub fn parameter(number: u32, figure: u32) -> u32
 }
 
 // The default of a parameter. Refused: 22.
-pub fn default_figure(number: u32) -> Found
-    ensures { λ r. ⌜ r ≡ defaultFound number ⌝ }
+pub fn default_figure(number: u32) -> Lookup
+    ensures { λ r. ⌜ r ≡ defaultLookup number ⌝ }
 {
     if (number < 1) | (3 < number) {
-        return refused_found(22);
+        return refused_lookup(22);
     }
     let r = row(number);
-    Found {
+    Lookup {
         refusal: 0,
         number: r[2],
     }

@@ -4,15 +4,15 @@ use mathlib.Core.Bool.{true, false}
 use lib.Ieee.{ofInt, neg, add, mul, le}
 use Rattle.octets.specs.Lists.{has, every}
 use Rattle.distance.specs.Distances.{num, isFar, limitFits, offset}
-use Rattle.distance.specs.Claims.{below42, tiny, accepted, refused, edges, beyond}
+use Rattle.distance.specs.Claims.{below42, tiny, limitsIn, limitsOut, edges, beyond}
 
 -- limits that lie in 0..4096
-pub limits-accepted : every limitFits accepted ≡ true
+pub limits-accepted : every limitFits limitsIn ≡ true
 unfolding ofInt neg le
 limits-accepted = refl
 
 -- and limits that do not
-pub limits-refused : has limitFits refused ≡ false
+pub limits-refused : has limitFits limitsOut ≡ false
 unfolding ofInt neg le
 limits-refused = refl
 

@@ -27,12 +27,12 @@ abbrev pub tiny : Float
 tiny = fin false 1 (negsuc 599)
 
 -- reuse limits that are accepted
-abbrev pub accepted : List Float
-accepted = neg (num 0) ∷ num 0 ∷ num 150 ∷ num 4096 ∷ []
+abbrev pub limitsIn : List Float
+limitsIn = neg (num 0) ∷ num 0 ∷ num 150 ∷ num 4096 ∷ []
 
 -- reuse limits that are refused
-abbrev pub refused : List Float
-refused = nan ∷ inf false ∷ inf true ∷ neg (num 1) ∷ below0 ∷ past4096 ∷ num 4097 ∷ []
+abbrev pub limitsOut : List Float
+limitsOut = nan ∷ inf false ∷ inf true ∷ neg (num 1) ∷ below0 ∷ past4096 ∷ num 4097 ∷ []
 
 -- edges of what is far at limit 150
 abbrev pub edges : List Distance
@@ -55,8 +55,8 @@ pub record Claims : Type 0 where
   pub unknown-not-far : (limit : Float) → isFar Unknown limit ≡ false
   pub other-kinds : (kind : ℕ) (a b : Float) → (kind ≡ 1 → ⊥) → (kind ≡ 2 → ⊥) → distanceOf kind a b ≡ Unknown
   -- the edges
-  pub limits-accepted : every limitFits accepted ≡ true
-  pub limits-refused : has limitFits refused ≡ false
+  pub limits-accepted : every limitFits limitsIn ≡ true
+  pub limits-refused : has limitFits limitsOut ≡ false
   pub edges-far : every (λ d. isFar d (num 150)) edges ≡ true
   pub beyond-not-far : has (λ d. isFar d (num 150)) beyond ≡ false
   -- each operation is rounded: an offset that falls short of 150 by less than the rounding is far, and so is the offset 0, 0 at a tiny limit

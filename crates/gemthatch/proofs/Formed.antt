@@ -12,27 +12,29 @@ use Rattle.octets.specs.Lists.{keep}
 use Rattle.octets.specs.Refusals.{firstOf, answer, outside}
 use Rattle.octets.proofs.Lists.{length-keep-not}
 use Rattle.octets.proofs.Refusals.{by-refusal, firstOf-zero, outside-false, answer-elim, answer-refused, answer-accepted, by-test}
-use Rattle.codec.specs.declared.Found.{Found}
-use Rattle.codec.specs.Rates.{rateTests, refusedFound}
+use Rattle.codec.specs.declared.Lookup.{Lookup}
+use Rattle.codec.specs.Rates.{rateTests, refusedLookup}
 use Rattle.codec.proofs.Rates.{badList-entry}
 use Rattle.record.specs.declared.Rec.{Rec}
 use Rattle.distance.specs.Distances.{isFar}
 use Rattle.sound.specs.Sound.{Channel, records, lasts, sound}
-use Rattle.sound.proofs.Sound.{Held, held}
+use Rattle.sound.proofs.Sound.{SoundParts, sound-parts}
 use Rattle.table.specs.declared.State.{State}
 use Rattle.table.specs.declared.Slot.{Slot}
-use Rattle.table.specs.declared.Slot.the-variants.{Free, Reusable, Taken, Refused}
-use Rattle.table.specs.Table.{Call, clock, reserve, distance, wipe, look, isLook, asked, bit, of, setFar, changed, reported}
-use Rattle.table.specs.Memory.{channel, stateOf, read, write, refusal, leaves, says, returned, openRefusal, openLeaves, openReturned}
-use Rattle.table.specs.Slots.{slotAnswer, said}
-use Rattle.table.proofs.Calls.{refusal-unsound, refused-gives, accepted-gives}
+use Rattle.table.specs.declared.Slot.the-variants.{Free, Reusable, Taken}
+use Rattle.table.specs.declared.SlotAnswer.{SlotAnswer}
+use Rattle.table.specs.declared.SlotAnswer.the-variants.{Is, Refused}
+use Rattle.table.specs.Table.{Call, clock, reserve, distance, wipe, look, isLook, newRecord, farOctet, ownedBy, setFar, changed, reported}
+use Rattle.table.specs.Memory.{channel, stateOf, tableOf, channelOf, callRefusal, leaves, says, returned, openRefusal, openLeaves, openReturned}
+use Rattle.table.specs.Slots.{slotAnswer, stateNumber, slotSaid}
+use Rattle.table.proofs.Calls.{callRefusal-unsound, refused-gives, accepted-gives}
 use Rattle.table.proofs.Memory.{length-kept}
 use Rattle.search.specs.declared.Picked.{Picked}
 use Rattle.search.specs.Search.{searched, picked}
 use Rattle.search.proofs.Answers.{found-fits}
-use Rattle.gemthatch.specs.OverC.{overC, called}
+use Rattle.gemthatch.specs.OverC.{overC, callNumber}
 use Rattle.gemthatch.specs.Claims.{moved, formed, StateFormed, StateOpened, RefusalTold, ReportedSmall, FoundSmall, SlotSmall, RateSmall, PickSmall}
-use Rattle.gemthatch.proofs.Most.{returned-called}
+use Rattle.gemthatch.proofs.Most.{returned-callNumber}
 
 -- ---- overC
 
@@ -42,56 +44,59 @@ unfolding overC answer
 overC-accepted number = refl
 
 -- a refusal from 2,000,000,000 on
-overC-refused : (refusal number : ℕ) → (refusal ≡ 0 → ⊥) → overC refusal number ≡ 2_000_000_000 + refusal
+overC-refused : (callRefusal number : ℕ) → (callRefusal ≡ 0 → ⊥) → overC callRefusal number ≡ 2_000_000_000 + callRefusal
 unfolding overC
-overC-refused refusal number h = sym (answer-refused number (λ n. 2_000_000_000 + n) {n = refusal} refl h)
+overC-refused callRefusal number h = sym (answer-refused number (λ n. 2_000_000_000 + n) {n = callRefusal} refl h)
 
 pub refusal-told : RefusalTold
-refusal-told refusal number h =
-    by-refusal refusal
+refusal-told callRefusal number h =
+    by-refusal callRefusal
     (λ z. rw (z, overC-accepted number, lt-leb 2_000_000_000 number h))
-    (λ z. rw (overC-refused refusal number z, le-leb 2_000_000_000 (2_000_000_000 + refusal) (omega arith)) (omega arith))
+    (λ z. rw (overC-refused callRefusal number z, le-leb 2_000_000_000 (2_000_000_000 + callRefusal) (omega arith)) (omega arith))
 
 -- ---- numbers are small
 
 -- a call that is not refused was made on a sound table
-accepted-held : (m : Channel) (c : Call) → refusal m c ≡ 0 → Held m
+accepted-held : (m : Channel) (c : Call) → callRefusal m c ≡ 0 → SoundParts m
 accepted-held m c z =
     by-test (sound m)
-    (λ h. held m h)
-    (λ h. let e : 11 ≡ 0 = refusal-unsound m c h ∙ z in absurd (omega arith))
+    (λ h. sound-parts m h)
+    (λ h. let e : 11 ≡ 0 = callRefusal-unsound m c h ∙ z in absurd (omega arith))
 
 -- and so reports no more than its records
-reported-most : (m : Channel) (c : Call) → isLook c ≡ false → Held m → reported (read m) c ≤ 2048
-unfolding read
+reported-most : (m : Channel) (c : Call) → isLook c ≡ false → SoundParts m → reported (tableOf m) c ≤ 2048
+unfolding tableOf
 reported-most m (clock slot) h k = omega (arith, length-kept m k (λ r. not (lasts (m .m1) slot r)), k .room, k .capacity-most)
 reported-most m (reserve q) h k = zero-le
-reported-most m (distance s d limit) h k = omega (arith, length-kept m k (of s), k .room, k .capacity-most)
-reported-most m (wipe s) h k = omega (arith, length-kept m k (of s), k .room, k .capacity-most)
+reported-most m (distance s d limit) h k = omega (arith, length-kept m k (ownedBy s), k .room, k .capacity-most)
+reported-most m (wipe s) h k = omega (arith, length-kept m k (ownedBy s), k .room, k .capacity-most)
 reported-most m (look f) h k = absurd (true≢false h)
 
 pub reported-small : ReportedSmall
 unfolding says
-reported-small m c h = answer-elim (reported (read m) c) (λ _. 0) (λ n. n ≤ 2048) (refusal m c) (λ z. reported-most m c h (accepted-held m c z)) (λ _. zero-le)
+reported-small m c h = answer-elim (reported (tableOf m) c) (λ _. 0) (λ n. n ≤ 2048) (callRefusal m c) (λ z. reported-most m c h (accepted-held m c z)) (λ _. zero-le)
 
 pub found-small : FoundSmall
 unfolding searched
 found-small m q places = found-fits m q places .1
 
 -- no slot's state has a number above 2
-said-small : (x : Slot) → said x .number ≤ 2
-said-small Free = zero-le
-said-small Reusable = omega arith
-said-small Taken = omega arith
-said-small (Refused n) = zero-le
+stateNumber-small : (x : Slot) → stateNumber x ≤ 2
+stateNumber-small Free = zero-le
+stateNumber-small Reusable = omega arith
+stateNumber-small Taken = omega arith
+
+slotSaid-small : (x : SlotAnswer) → slotSaid x .number ≤ 2
+slotSaid-small (Is x) = stateNumber-small x
+slotSaid-small (Refused n) = zero-le
 
 pub slot-small : SlotSmall
-slot-small m slot = said-small (slotAnswer m slot)
+slot-small m slot = slotSaid-small (slotAnswer m slot)
 
 pub rate-small : RateSmall
 unfolding rateTests
 rate-small rates code =
-    answer-elim (record { refusal = 0; number = getD rates code 0 }) refusedFound (λ (f : Found). f .number ≤ 60) (firstOf (rateTests rates code))
+    answer-elim (record { refusal = 0; number = getD rates code 0 }) refusedLookup (λ (f : Lookup). f .number ≤ 60) (firstOf (rateTests rates code))
     (λ z. badList-entry rates code (firstOf-zero (rateTests rates code) refl z .0))
     (λ _. zero-le)
 
@@ -114,42 +119,42 @@ module _ (s : State) (b : List ℕ) where
   then t n = record { m1 = s .m1; now = t; count = n }
 
   -- by what an accepted call reports
-  moved-written : (c : Call) → isLook c ≡ false → Held given → moved s c (reported (read given) c) ≡ stateOf (write (changed (read given) c))
-  unfolding read write
+  moved-written : (c : Call) → isLook c ≡ false → SoundParts given → moved s c (reported (tableOf given) c) ≡ stateOf (channelOf (changed (tableOf given) c))
+  unfolding tableOf channelOf
   moved-written (clock slot) h k =
       let live = lasts (s .m1) slot in
       let over : Rec → Bool = λ r. not (live r) in
       let e : s .count - len (keep over (records given)) ≡ len (keep live (records given)) = omega (arith, k .counted, length-keep-not live over (λ r. refl) (records given)) in
       ap (then slot) e
   moved-written (reserve q) h k =
-      let e : s .count + 1 ≡ len (records given ++ (asked (s .now) q ∷ [])) = rw (length-append, k .counted) in
+      let e : s .count + 1 ≡ len (records given ++ (newRecord (s .now) q ∷ [])) = rw (length-append, k .counted) in
       ap (then (s .now)) e
   moved-written (distance station d limit) h k =
-      let e : s .count ≡ len (map (setFar station (bit (isFar d limit))) (records given)) = rw (length-map, k .counted) in
+      let e : s .count ≡ len (map (setFar station (farOctet (isFar d limit))) (records given)) = rw (length-map, k .counted) in
       ap (then (s .now)) e
   moved-written (wipe station) h k =
-      let others : Rec → Bool = λ r. not (of station r) in
-      let e : s .count - len (keep (of station) (records given)) ≡ len (keep others (records given)) = omega (arith, k .counted, length-keep-not (of station) others (λ r. refl) (records given)) in
+      let others : Rec → Bool = λ r. not (ownedBy station r) in
+      let e : s .count - len (keep (ownedBy station) (records given)) ≡ len (keep others (records given)) = omega (arith, k .counted, length-keep-not (ownedBy station) others (λ r. refl) (records given)) in
       ap (then (s .now)) e
   moved-written (look f) h k = absurd (true≢false h)
 
   -- by a call's one number, accepted or refused
-  formed-made : (c : Call) → isLook c ≡ false → formed s c (called given c) ≡ returned given c .state
-  formed-made c h = by-refusal (refusal given c) accepted refused
+  formed-made : (c : Call) → isLook c ≡ false → formed s c (callNumber given c) ≡ returned given c .state
+  formed-made c h = by-refusal (callRefusal given c) accepted refused
     where
-      accepted : refusal given c ≡ 0 → formed s c (called given c) ≡ returned given c .state
+      accepted : callRefusal given c ≡ 0 → formed s c (callNumber given c) ≡ returned given c .state
       accepted z =
           let k = accepted-held given c z in
-          let x = reported (read given) c in
+          let x = reported (tableOf given) c in
           let g = accepted-gives given c (sym z) h .result in
-          let e : called given c ≡ x = sym (returned-called _ given c g) ∙ overC-accepted x in
+          let e : callNumber given c ≡ x = sym (returned-callNumber _ given c g) ∙ overC-accepted x in
           rw (e, lt-leb 2_000_000_000 x (omega (arith, reported-most given c h k)), ← g) (moved-written c h k)
 
-      refused : (refusal given c ≡ 0 → ⊥) → formed s c (called given c) ≡ returned given c .state
+      refused : (callRefusal given c ≡ 0 → ⊥) → formed s c (callNumber given c) ≡ returned given c .state
       refused z =
-          let r = refusal given c in
+          let r = callRefusal given c in
           let g = refused-gives given c r refl z .result in
-          let e : called given c ≡ 2_000_000_000 + r = sym (returned-called _ given c g) ∙ overC-refused r 0 z in
+          let e : callNumber given c ≡ 2_000_000_000 + r = sym (returned-callNumber _ given c g) ∙ overC-refused r 0 z in
           rw (e, le-leb 2_000_000_000 (2_000_000_000 + r) (omega arith), ← g)
 
 pub state-formed : StateFormed
@@ -158,7 +163,7 @@ state-formed s b (clock slot) = formed-made s b (clock slot) refl
 state-formed s b (reserve q) = formed-made s b (reserve q) refl
 state-formed s b (distance station d limit) = formed-made s b (distance station d limit) refl
 state-formed s b (wipe station) = formed-made s b (wipe station) refl
-state-formed s b (look f) = go (leb 2_000_000_000 (called (channel s b) (look f)))
+state-formed s b (look f) = go (leb 2_000_000_000 (callNumber (channel s b) (look f)))
   where
     go : (t : Bool) → cond t s s ≡ s
     go true = refl

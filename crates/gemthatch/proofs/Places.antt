@@ -13,7 +13,7 @@ use Rattle.octets.proofs.Refusals.{outside-false}
 use Rattle.sound.specs.Sound.{Channel}
 use Rattle.search.specs.declared.Query.{Query}
 use Rattle.search.specs.declared.Found.{Found}
-use Rattle.search.specs.Search.{refusal, found, searched, listAfter}
+use Rattle.search.specs.Search.{searchRefusal, found, searched, listAfter}
 
 module _ (m : Channel) (q : Query) (places others : ℕ) (h : 16 ≤ places) (k : 16 ≤ others) where
   -- more than 16 wanted is refused before the list's length is asked
@@ -28,17 +28,17 @@ module _ (m : Channel) (q : Query) (places others : ℕ) (h : 16 ≤ places) (k 
           rw (le-ltb places (q .wanted) (omega arith), le-ltb others (q .wanted) (omega arith))
 
   -- so the refusal is the same, and with it all that a search gives
-  refusal-alike : refusal m q places ≡ refusal m q others
-  unfolding refusal
-  refusal-alike = rw (short-alike _)
+  searchRefusal-alike : searchRefusal m q places ≡ searchRefusal m q others
+  unfolding searchRefusal
+  searchRefusal-alike = rw (short-alike _)
 
   pub found-alike : found m q places ≡ found m q others
   unfolding found
-  found-alike = rw refusal-alike
+  found-alike = rw searchRefusal-alike
 
   pub searched-alike : searched m q places ≡ searched m q others
   unfolding searched
-  searched-alike = rw (refusal-alike, found-alike)
+  searched-alike = rw (searchRefusal-alike, found-alike)
 
 -- the starts found stand in front of whatever follows the list
 pub found-front : (m : Channel) (q : Query) (places : ℕ) (f : Found) (list rest : List ℕ) → f ≡ searched m q places → list ≡ listAfter m q places

@@ -4,15 +4,15 @@ use mathlib.Core.Path.{_≡_}
 use mathlib.Core.Bool.{false, cond}
 use mathlib.Core.List.{List}
 use lib.Dec.{leb}
-use Rattle.codec.specs.Rates.{rateFound}
+use Rattle.codec.specs.Rates.{rateLookup}
 use Rattle.sound.specs.Sound.{Channel}
 use Rattle.table.specs.declared.State.{State}
 use Rattle.table.specs.Table.{Call, clock, reserve, distance, wipe, look, isLook}
 use Rattle.table.specs.Memory.{channel, says, returned, openRefusal, openReturned}
-use Rattle.table.specs.Slots.{slotAnswer, said}
+use Rattle.table.specs.Slots.{slotAnswer, slotSaid}
 use Rattle.search.specs.declared.Query.{Query}
 use Rattle.search.specs.Search.{searched, picked}
-use Rattle.gemthatch.specs.OverC.{overC, called}
+use Rattle.gemthatch.specs.OverC.{overC, callNumber}
 
 -- ---- what the host makes of a number
 
@@ -40,7 +40,7 @@ formedByOpen m1 x = cond (leb 2_000_000_000 x) (record { m1 = 0; now = 0; count 
 
 -- the state that the host forms from an answer is the state that the method hands back
 abbrev pub StateFormed : Type 0
-StateFormed = (s : State) (b : List ℕ) (c : Call) → formed s c (called (channel s b) c) ≡ returned (channel s b) c .state
+StateFormed = (s : State) (b : List ℕ) (c : Call) → formed s c (callNumber (channel s b) c) ≡ returned (channel s b) c .state
 
 -- and so it is after an opening
 abbrev pub StateOpened : Type 0
@@ -60,11 +60,11 @@ FoundSmall = (m : Channel) (q : Query) (places : ℕ) → searched m q places .n
 
 -- a slot's state is at most 2
 abbrev pub SlotSmall : Type 0
-SlotSmall = (m : Channel) (slot : ℕ) → said (slotAnswer m slot) .number ≤ 2
+SlotSmall = (m : Channel) (slot : ℕ) → slotSaid (slotAnswer m slot) .number ≤ 2
 
 -- a rate is at most 60
 abbrev pub RateSmall : Type 0
-RateSmall = (rates : List ℕ) (code : ℕ) → rateFound rates code .number ≤ 60
+RateSmall = (rates : List ℕ) (code : ℕ) → rateLookup rates code .number ≤ 60
 
 -- a pick is below 16
 abbrev pub PickSmall : Type 0

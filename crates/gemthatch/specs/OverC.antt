@@ -10,7 +10,7 @@ use Rattle.sound.specs.Sound.{Channel}
 use Rattle.table.specs.declared.Request.{Request}
 use Rattle.table.specs.Table.{Call}
 use Rattle.table.specs.Memory.{channel, says}
-use Rattle.table.specs.Slots.{slotAnswer, said}
+use Rattle.table.specs.Slots.{slotAnswer, slotSaid}
 use Rattle.walk.specs.declared.Handed.{Handed}
 use Rattle.walk.specs.declared.Handed.the-variants.{One, NoMore}
 use Rattle.walk.specs.Walk.{recordAt}
@@ -19,8 +19,8 @@ use Rattle.search.specs.Search.{found, searched}
 use Rattle.gemthatch.specs.declared.Place.{Place}
 
 -- no refusal has a larger number
-abbrev pub largest : ℕ
-largest = 22
+abbrev pub largestRefusal : ℕ
+largestRefusal = 22
 
 -- the number reported, the slot's state or the number found; refused, 2,000,000,000 plus the refusal's number
 unfoldable pub overC : ℕ → ℕ → ℕ
@@ -52,12 +52,12 @@ query lo hi length wanted = record { lo = lo; hi = hi; length = length; wanted =
 -- ---- what it returns
 
 -- clock, reserve, distance and wipe
-unfoldable pub called : Channel → Call → ℕ
-called m c = overC (says m c .refusal) (says m c .number)
+unfoldable pub callNumber : Channel → Call → ℕ
+callNumber m c = overC (says m c .refusal) (says m c .number)
 
 -- the slot state: 0 free, 1 reusable, 2 taken
 unfoldable pub slotNumber : Channel → ℕ → ℕ
-slotNumber m slot = overC (said (slotAnswer m slot) .refusal) (said (slotAnswer m slot) .number)
+slotNumber m slot = overC (slotSaid (slotAnswer m slot) .refusal) (slotSaid (slotAnswer m slot) .number)
 
 -- the search, with a list of so many octets: its length is their number over four
 unfoldable pub searchNumber : Channel → Query → ℕ → ℕ

@@ -8,6 +8,7 @@ use search::Found;
 use search::Query;
 use table::Request;
 use table::Slot;
+use table::SlotAnswer;
 use table::State;
 use tally::Tally;
 use walk::Handed;
@@ -18,14 +19,15 @@ ghost use lib.ListN.{length, length as len, take};
 ghost use Rattle.octets.specs.Octets.{holdsOnly};
 ghost use Rattle.octets.specs.Refusals.{firstOf};
 ghost use Rattle.codec.specs.NineOctets.{reading, writing};
-ghost use Rattle.codec.specs.Rates.{rateFound};
+ghost use Rattle.codec.specs.Rates.{rateLookup};
 ghost use Rattle.codec.specs.Parameters.{parameterTests};
 ghost use Rattle.tally.specs.Calls.{counted};
 ghost use Rattle.distance.specs.Distances.{distanceOf};
 ghost use Rattle.table.specs.Table.{clock, reserve, distance, wipe};
 ghost use Rattle.table.specs.Memory.{channel, leaves, openRefusal, openLeaves};
+ghost use Rattle.table.specs.Slots.{stateNumber};
 ghost use Rattle.search.specs.Search.{found, searched, picked};
-ghost use Rattle.gemthatch.specs.OverC.{largest, overC, lent, request, query, called, slotNumber, searchNumber, inOctets, searchList, placeAt};
+ghost use Rattle.gemthatch.specs.OverC.{largestRefusal, overC, lent, request, query, callNumber, slotNumber, searchNumber, inOctets, searchList, placeAt};
 ghost use Rattle.gemthatch.specs.Claims.{Claims};
 
 // What a walk hands out at a place: the bare refusal, how many records (1, or 0 for no more), and the record, all 0 where there is none.
@@ -40,13 +42,24 @@ pub struct Place {
 
 // The one number of an answer.
 fn over_c(refusal: u32, number: u32) -> u32
-    requires { ⌜ refusal ≤ largest ⌝ }
+    requires { ⌜ refusal ≤ largestRefusal ⌝ }
     ensures { λ r. ⌜ r ≡ overC refusal number ⌝ }
 {
     if refusal == 0 {
         return number;
     }
     2000000000 + refusal
+}
+
+// The number of a slot's state.
+fn state_number(x: Slot) -> u32
+    ensures { λ r. ⌜ r ≡ stateNumber x ⌝ }
+{
+    match x {
+        Slot::Free => 0,
+        Slot::Reusable => 1,
+        Slot::Taken => 2,
+    }
 }
 
 // Puts the first n numbers into a wiped list, four octets to each.
@@ -103,7 +116,7 @@ pub extern "C" fn gemthatch_write(block: Block) -> Writing
 // The rate that a code stands for. Refused, in this order: 7, 3.
 #[no_mangle]
 pub extern "C" fn gemthatch_rate(rates: &[u8], code: u32) -> u32
-    ensures { λ r. ⌜ r ≡ overC (rateFound (now (rates .entry)) code .refusal) (rateFound (now (rates .entry)) code .number) ⌝ }
+    ensures { λ r. ⌜ r ≡ overC (rateLookup (now (rates .entry)) code .refusal) (rateLookup (now (rates .entry)) code .number) ⌝ }
 {
     let f = codec::rate(rates, code);
     over_c(f.refusal, f.number)
@@ -139,7 +152,7 @@ pub extern "C" fn gemthatch_clock(
     count: u32,
     slot: u32,
 ) -> u32
-    ensures answer { λ r. ⌜ r ≡ called (lent m1 time count (now (memory .entry))) (clock slot) ⌝ }
+    ensures answer { λ r. ⌜ r ≡ callNumber (lent m1 time count (now (memory .entry))) (clock slot) ⌝ }
     ensures memory { λ _. ⌜ now (memory .exit) ≡ leaves (lent m1 time count (now (memory .entry))) (clock slot) .memory ⌝ }
 {
     let s = State {
@@ -168,7 +181,7 @@ pub extern "C" fn gemthatch_reserve(
     b: f64,
     limit: f64,
 ) -> u32
-    ensures answer { λ r. ⌜ r ≡ called (lent m1 time count (now (memory .entry))) (reserve (request station rate superframes bs length kind a b limit)) ⌝ }
+    ensures answer { λ r. ⌜ r ≡ callNumber (lent m1 time count (now (memory .entry))) (reserve (request station rate superframes bs length kind a b limit)) ⌝ }
     ensures memory { λ _. ⌜ now (memory .exit) ≡ leaves (lent m1 time count (now (memory .entry))) (reserve (request station rate superframes bs length kind a b limit)) .memory ⌝ }
 {
     let s = State {
@@ -203,7 +216,7 @@ pub extern "C" fn gemthatch_distance(
     b: f64,
     limit: f64,
 ) -> u32
-    ensures answer { λ r. ⌜ r ≡ called (lent m1 time count (now (memory .entry))) (distance station (distanceOf kind a b) limit) ⌝ }
+    ensures answer { λ r. ⌜ r ≡ callNumber (lent m1 time count (now (memory .entry))) (distance station (distanceOf kind a b) limit) ⌝ }
     ensures memory { λ _. ⌜ now (memory .exit) ≡ leaves (lent m1 time count (now (memory .entry))) (distance station (distanceOf kind a b) limit) .memory ⌝ }
 {
     let s = State {
@@ -225,7 +238,7 @@ pub extern "C" fn gemthatch_wipe(
     count: u32,
     station: u32,
 ) -> u32
-    ensures answer { λ r. ⌜ r ≡ called (lent m1 time count (now (memory .entry))) (wipe station) ⌝ }
+    ensures answer { λ r. ⌜ r ≡ callNumber (lent m1 time count (now (memory .entry))) (wipe station) ⌝ }
     ensures memory { λ _. ⌜ now (memory .exit) ≡ leaves (lent m1 time count (now (memory .entry))) (wipe station) .memory ⌝ }
 {
     let s = State {
@@ -256,10 +269,8 @@ pub extern "C" fn gemthatch_slot_state(
         count,
     };
     match table::slot_state(s, memory, slot) {
-        Slot::Free => 0,
-        Slot::Reusable => 1,
-        Slot::Taken => 2,
-        Slot::Refused(n) => over_c(n, 0),
+        SlotAnswer::Is(x) => state_number(x),
+        SlotAnswer::Refused(n) => over_c(n, 0),
     }
 }
 

@@ -9,7 +9,7 @@ use borrow.Author.Tests.{eqb-true, eqb-false}
 use lib.Dec.{eqb}
 use lib.IntN.{ℤ, pos, negsuc}
 use lib.ListN.{length, length-append}
-use Rattle.octets.specs.Complement.{badOffset}
+use Rattle.octets.specs.Complement.{beyond127}
 use Rattle.octets.specs.Octets.{AreOctets}
 use Rattle.octets.proofs.Complement.{offset-small}
 use Rattle.octets.proofs.Refusals.{answer-accepted, answer-refused}
@@ -18,40 +18,40 @@ use Rattle.codec.specs.Steps.{Fitting}
 use Rattle.codec.specs.declared.Reading.{Reading}
 use Rattle.codec.specs.NineOctets.{reading}
 use Rattle.codec.proofs.Tests.{read-fitting, reading-refusal-most}
-use Rattle.lines.specs.Text.{signed}
-use Rattle.lines.specs.Listing.{fields, refused, line, group, lines, longest}
+use Rattle.lines.specs.Text.{signedDecimal}
+use Rattle.lines.specs.Listing.{blockLine, refusedLine, line, group, firstLines, longest}
 use Rattle.lines.proofs.Decimal.{length-decimal}
 
 -- ---- which line
 
 module _ (g : List ℕ) (r : Reading) (e : r ≡ reading g) where
   -- an accepted group has the line of its fields
-  pub line-fields : r .refusal ≡ 0 → line g ≡ fields (r .block)
+  pub line-blockLine : r .refusal ≡ 0 → line g ≡ blockLine (r .block)
   unfolding line
-  line-fields z = rw (← e) (sym (answer-accepted (fields (r .block)) refused (sym z)))
+  line-blockLine z = rw (← e) (sym (answer-accepted (blockLine (r .block)) refusedLine (sym z)))
 
   -- and any other that of its refusal
-  pub line-refused : (r .refusal ≡ 0 → ⊥) → line g ≡ refused (r .refusal)
+  pub line-refusedLine : (r .refusal ≡ 0 → ⊥) → line g ≡ refusedLine (r .refusal)
   unfolding line
-  line-refused n = rw (← e) (sym (answer-refused (fields (r .block)) refused refl n))
+  line-refusedLine n = rw (← e) (sym (answer-refused (blockLine (r .block)) refusedLine refl n))
 
 -- one group more
-pub lines-next : (n : ℕ) (s : List ℕ) → lines (n + 1) s ≡ lines n s ++ line (group s n)
-unfolding lines
-lines-next n s = rw add-one
+pub firstLines-next : (n : ℕ) (s : List ℕ) → firstLines (n + 1) s ≡ firstLines n s ++ line (group s n)
+unfolding firstLines
+firstLines-next n s = rw add-one
 
 -- ---- how long they are
 
 -- bo has at most four characters
-signed-short : (z : ℤ) → badOffset z ≡ false → length (signed z) ≤ 4
-unfolding signed
-signed-short (pos n) h = omega (arith, length-decimal 2 n (omega (arith, offset-small (pos n) h)))
-signed-short (negsuc n) h = omega (arith, length-decimal 2 (suc n) (omega (arith, offset-small (negsuc n) h)))
+signedDecimal-short : (z : ℤ) → beyond127 z ≡ false → length (signedDecimal z) ≤ 4
+unfolding signedDecimal
+signedDecimal-short (pos n) h = omega (arith, length-decimal 2 n (omega (arith, offset-small (pos n) h)))
+signedDecimal-short (negsuc n) h = omega (arith, length-decimal 2 (suc n) (omega (arith, offset-small (negsuc n) h)))
 
 -- the line of fields that fit is no longer than `longest`
-fields-short : (b : Block) → Fitting b → length (fields b) ≤ longest
-unfolding fields
-fields-short b f =
+blockLine-short : (b : Block) → Fitting b → length (blockLine b) ≤ longest
+unfolding blockLine
+blockLine-short b f =
     simp length-append
     (omega (
       arith,
@@ -60,14 +60,14 @@ fields-short b f =
       length-decimal 2 (b .roff) (omega (arith, f .roff-low)),
       length-decimal 1 (b .br) (omega (arith, f .br-low)),
       length-decimal 2 (b .bs) (omega (arith, f .bs-low)),
-      signed-short (b .bo) (f .bo-in),
+      signedDecimal-short (b .bo) (f .bo-in),
       length-decimal 0 (b .bt) (omega (arith, f .bt-low)),
     ))
 
 -- nor is that of a refusal
-refused-short : (n : ℕ) → n ≤ 6 → length (refused n) ≤ longest
-unfolding refused
-refused-short n h = simp length-append (omega (arith, length-decimal 0 n (omega arith)))
+refusedLine-short : (n : ℕ) → n ≤ 6 → length (refusedLine n) ≤ longest
+unfolding refusedLine
+refusedLine-short n h = simp length-append (omega (arith, length-decimal 0 n (omega arith)))
 
 -- so no line is
 pub line-longest : (g : List ℕ) → AreOctets g → length (line g) ≤ longest
@@ -76,6 +76,6 @@ line-longest g are = go (eqb (reading g .refusal) 0) refl
     go : (t : Bool) → eqb (reading g .refusal) 0 ≡ t → length (line g) ≤ longest
     go true e =
         let z = eqb-true (reading g .refusal) 0 e in
-        rw (line-fields g (reading g) refl z) (fields-short _ (read-fitting g are z))
+        rw (line-blockLine g (reading g) refl z) (blockLine-short _ (read-fitting g are z))
     go false e =
-        rw (line-refused g (reading g) refl (eqb-false (reading g .refusal) 0 e)) (refused-short _ (reading-refusal-most g))
+        rw (line-refusedLine g (reading g) refl (eqb-false (reading g .refusal) 0 e)) (refusedLine-short _ (reading-refusal-most g))

@@ -6,7 +6,7 @@ use native.Mathlib.Nat.{add-zero, add-suc}
 use native.Mathlib.Omega.{arith}
 use lib.ListN.{length, drop, length-append, length-drop}
 use lib.Seq.{take-append-le, drop-append-le, drop-append-add}
-use Rattle.lines.specs.Listing.{group, groups, lines, listed}
+use Rattle.lines.specs.Listing.{group, groups, firstLines, allLines}
 
 module _ (s t : List ℕ) where
   -- a group within the first piece
@@ -21,20 +21,20 @@ module _ (s t : List ℕ) where
       rw (f, drop-append-add)
 
   -- the lines of groups within the first piece
-  lines-first : (n : ℕ) → n * 9 ≤ length s → lines n (s ++ t) ≡ lines n s
-  unfolding lines
-  lines-first zero h = refl
-  lines-first (suc n) h = rw (lines-first n (omega arith), group-first n (omega arith))
+  firstLines-first : (n : ℕ) → n * 9 ≤ length s → firstLines n (s ++ t) ≡ firstLines n s
+  unfolding firstLines
+  firstLines-first zero h = refl
+  firstLines-first (suc n) h = rw (firstLines-first n (omega arith), group-first n (omega arith))
 
   -- the lines of all of the first, and of groups of the second
-  lines-second : (m n : ℕ) → length s ≡ m * 9 → lines (m + n) (s ++ t) ≡ lines m s ++ lines n t
-  unfolding lines
-  lines-second m zero e = rw (add-zero, append-nil) (lines-first m (omega arith))
-  lines-second m (suc n) e = rw (add-suc m n, lines-second m n e, group-second m n e, append-assoc)
+  firstLines-second : (m n : ℕ) → length s ≡ m * 9 → firstLines (m + n) (s ++ t) ≡ firstLines m s ++ firstLines n t
+  unfolding firstLines
+  firstLines-second m zero e = rw (add-zero, append-nil) (firstLines-first m (omega arith))
+  firstLines-second m (suc n) e = rw (add-suc m n, firstLines-second m n e, group-second m n e, append-assoc)
 
 -- the lines of both
-pub pieces : (s t : List ℕ) → length s % 9 ≡ 0 → listed (s ++ t) ≡ listed s ++ listed t
+pub pieces : (s t : List ℕ) → length s % 9 ≡ 0 → allLines (s ++ t) ≡ allLines s ++ allLines t
 pieces s t h =
     let e : length s ≡ groups s * 9 = omega arith in
     let f : (length s + length t + 8) / 9 ≡ groups s + groups t = omega arith in
-    rw (length-append, f) (lines-second s t (groups s) (groups t) e)
+    rw (length-append, f) (firstLines-second s t (groups s) (groups t) e)

@@ -11,7 +11,7 @@ use lib.Dec.{ltb}
 use lib.IntN.{ℤ, pos, negsuc, natAbs, _-ℤ_}
 use lib.Signed.{ltZ, mag}
 use lib.ListN.{set, length-set, length-append}
-use Rattle.lines.specs.Text.{signed}
+use Rattle.lines.specs.Text.{signedDecimal}
 use Rattle.lines.specs.Steps.{Room, Wrote, field}
 use Rattle.lines.proofs.Wrote.{sets-over}
 
@@ -44,15 +44,15 @@ after-sign at z = at + cond (ltZ z (pos 0)) 1 0
 
 module _ (l : List ℕ) (at : ℕ) where
   -- there is room for the size after the minus
-  pub sign-room : (z : ℤ) → Room l at (signed z ++ (32 ∷ [])) → Room (set l at 45) (after-sign at z) (field (natAbs z) 32)
-  unfolding signed
+  pub sign-room : (z : ℤ) → Room l at (signedDecimal z ++ (32 ∷ [])) → Room (set l at 45) (after-sign at z) (field (natAbs z) 32)
+  unfolding signedDecimal
   sign-room (pos n) h = rw (le-ltb n 0 (omega arith)) (record { room = rw length-set (omega arith) })
   sign-room (negsuc n) h = record { room = rw length-set (omega arith) }
 
   -- and then the signed number is put
   pub sign-wrote : (z : ℤ) {r : ℕ} {l₁ : List ℕ} → Wrote (set l at 45) (after-sign at z) (field (natAbs z) 32) r l₁
-      → Wrote l at (signed z ++ (32 ∷ [])) r l₁
-  unfolding signed
+      → Wrote l at (signedDecimal z ++ (32 ∷ [])) r l₁
+  unfolding signedDecimal
   sign-wrote (pos n) w =
       let v = rw (le-ltb n 0 (omega arith), add-zero at) at w in
       record { place = v .place; holds = v .holds ∙ sets-over l at 45 (field n 32) (rw length-append (omega arith)) }

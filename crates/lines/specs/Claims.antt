@@ -5,7 +5,7 @@ use mathlib.Core.List.{List, [], _∷_, _++_}
 use lib.ListN.{length}
 use Rattle.octets.specs.Octets.{AreOctets}
 use Rattle.lines.specs.Text.{text}
-use Rattle.lines.specs.Listing.{header, line, listed, listing, longest}
+use Rattle.lines.specs.Listing.{header, line, allLines, listing, longest}
 
 pub record Claims : Type 0 where
   -- document 01's sample
@@ -19,4 +19,4 @@ pub record Claims : Type 0 where
   -- no line is longer than `longest`
   pub no-longer : (g : List ℕ) → AreOctets g → length (line g) ≤ longest
   -- it does not matter in which pieces of whole groups an input comes
-  pub pieces : (s t : List ℕ) → length s % 9 ≡ 0 → listed (s ++ t) ≡ listed s ++ listed t
+  pub pieces : (s t : List ℕ) → length s % 9 ≡ 0 → allLines (s ++ t) ≡ allLines s ++ allLines t

@@ -7,15 +7,15 @@ use lib.ListN.{length, take, drop}
 use Rattle.octets.specs.Refusals.{answer}
 use Rattle.codec.specs.declared.Block.{Block}
 use Rattle.codec.specs.NineOctets.{reading}
-use Rattle.lines.specs.Text.{text, decimal, signed}
+use Rattle.lines.specs.Text.{text, decimal, signedDecimal}
 
 -- the header line
 abbrev pub header : List ℕ
 header = text "d blg roff br bs bo bt\n"
 
 -- the fields of a block, a space between two
-unfoldable pub fields : Block → List ℕ
-fields b =
+unfoldable pub blockLine : Block → List ℕ
+blockLine b =
     decimal (b .d)
     ++ text " "
     ++ decimal (b .blg)
@@ -26,18 +26,18 @@ fields b =
     ++ text " "
     ++ decimal (b .bs)
     ++ text " "
-    ++ signed (b .bo)
+    ++ signedDecimal (b .bo)
     ++ text " "
     ++ decimal (b .bt)
     ++ text "\n"
 
 -- a refused group: the word and the number
-unfoldable pub refused : ℕ → List ℕ
-refused n = text "refused " ++ decimal n ++ text "\n"
+unfoldable pub refusedLine : ℕ → List ℕ
+refusedLine n = text "refused " ++ decimal n ++ text "\n"
 
 -- a group's line
 unfoldable pub line : List ℕ → List ℕ
-line g = answer (reading g .refusal) (fields (reading g .block)) refused
+line g = answer (reading g .refusal) (blockLine (reading g .block)) refusedLine
 
 -- group k of an input, counted from 0: nine octets, or what is left
 abbrev pub group : List ℕ → ℕ → List ℕ
@@ -48,22 +48,22 @@ abbrev pub groups : List ℕ → ℕ
 groups s = (length s + 8) / 9
 
 -- the lines of the first n groups
-unfoldable pub lines : ℕ → List ℕ → List ℕ
-lines zero s = []
-lines (suc n) s = lines n s ++ line (group s n)
+unfoldable pub firstLines : ℕ → List ℕ → List ℕ
+firstLines zero s = []
+firstLines (suc n) s = firstLines n s ++ line (group s n)
 
 -- the lines of all groups
-abbrev pub listed : List ℕ → List ℕ
-listed s = lines (groups s) s
+abbrev pub allLines : List ℕ → List ℕ
+allLines s = firstLines (groups s) s
 
 -- the whole listing of an input
 abbrev pub listing : List ℕ → List ℕ
-listing s = header ++ listed s
+listing s = header ++ allLines s
 
 -- no line is longer than "134217727 31 255 13 255 -127 3" and its end
 abbrev pub longest : ℕ
 longest = 31
 
 -- the lines that a lent text gets: all, or none where it has no room for a longest line for each group
-abbrev pub told : List ℕ → List ℕ → List ℕ
-told s t = cond (leb (groups s * longest) (length t)) (listed s) []
+abbrev pub linesIn : List ℕ → List ℕ → List ℕ
+linesIn s t = cond (leb (groups s * longest) (length t)) (allLines s) []

@@ -22,6 +22,6 @@ unfoldable pub decimal : ℕ → List ℕ
 decimal n = digits n n
 
 -- a signed number in decimal
-unfoldable pub signed : ℤ → List ℕ
-signed (pos n) = decimal n
-signed (negsuc n) = text "-" ++ decimal (suc n)
+unfoldable pub signedDecimal : ℤ → List ℕ
+signedDecimal (pos n) = decimal n
+signedDecimal (negsuc n) = text "-" ++ decimal (suc n)

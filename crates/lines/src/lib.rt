@@ -6,8 +6,8 @@ ghost use Prim.Native.Nat.{_+_, _*_, _<_, _≤_};
 ghost use lib.IntN.{natAbs};
 ghost use lib.ListN.{length};
 ghost use Rattle.octets.specs.Octets.{holdsOnly};
-ghost use Rattle.lines.specs.Text.{decimal, signed};
-ghost use Rattle.lines.specs.Listing.{header, fields, refused, line, group, groups, listed, longest, told};
+ghost use Rattle.lines.specs.Text.{decimal, signedDecimal};
+ghost use Rattle.lines.specs.Listing.{header, blockLine, refusedLine, line, group, groups, allLines, longest, linesIn};
 ghost use Rattle.lines.specs.Steps.{Room, Wrote, three, field};
 ghost use Rattle.lines.specs.Claims.{Claims};
 use codec::Block;
@@ -120,8 +120,8 @@ fn put_field(out: &mut [u8], at: usize, n: u32, after: u8) -> usize
 
 // A signed number, and a space: a minus is put, and the number takes its place where it is not negative.
 fn put_signed(out: &mut [u8], at: usize, z: i32) -> usize
-    requires { ⌜ Room (now out) at (signed z ++ (32 ∷ [])) ⌝ }
-    ensures { λ r. ⌜ Wrote (now (out .entry)) at (signed z ++ (32 ∷ [])) r (now (out .exit)) ⌝ }
+    requires { ⌜ Room (now out) at (signedDecimal z ++ (32 ∷ [])) ⌝ }
+    ensures { λ r. ⌜ Wrote (now (out .entry)) at (signedDecimal z ++ (32 ∷ [])) r (now (out .exit)) ⌝ }
 {
     let n = magnitude(z);
     let i = at + one_if(z < 0);
@@ -130,8 +130,8 @@ fn put_signed(out: &mut [u8], at: usize, z: i32) -> usize
 }
 
 fn put_fields(out: &mut [u8], at: usize, b: Block) -> usize
-    requires { ⌜ Room (now out) at (fields b) ⌝ }
-    ensures { λ r. ⌜ Wrote (now (out .entry)) at (fields b) r (now (out .exit)) ⌝ }
+    requires { ⌜ Room (now out) at (blockLine b) ⌝ }
+    ensures { λ r. ⌜ Wrote (now (out .entry)) at (blockLine b) r (now (out .exit)) ⌝ }
 {
     let i = put_field(out, at, b.d, b' ');
     let i = put_field(out, i, b.blg, b' ');
@@ -143,8 +143,8 @@ fn put_fields(out: &mut [u8], at: usize, b: Block) -> usize
 }
 
 fn put_refused(out: &mut [u8], at: usize, n: u32) -> usize
-    requires { ⌜ Room (now out) at (refused n) ⌝ }
-    ensures { λ r. ⌜ Wrote (now (out .entry)) at (refused n) r (now (out .exit)) ⌝ }
+    requires { ⌜ Room (now out) at (refusedLine n) ⌝ }
+    ensures { λ r. ⌜ Wrote (now (out .entry)) at (refusedLine n) r (now (out .exit)) ⌝ }
 {
     let i = put_text(out, at, b"refused ");
     put_field(out, i, n, b'\n')
@@ -178,7 +178,7 @@ fn group_of(input: &[u8], k: usize) -> &[u8]
 // The lines of the n groups, from the start of text on.
 fn put_lines(text: &mut [u8], input: &[u8], n: usize) -> usize
     requires { ⌜ (n ≡ groups (now input)) × (n * longest ≤ length (now text)) ⌝ }
-    ensures { λ r. ⌜ Wrote (now (text .entry)) 0 (listed (now (input .entry))) r (now (text .exit)) ⌝ }
+    ensures { λ r. ⌜ Wrote (now (text .entry)) 0 (allLines (now (input .entry))) r (now (text .exit)) ⌝ }
     ensures { λ r. ⌜ r ≤ n * longest ⌝ }
 {
     let mut at = 0;
@@ -193,8 +193,8 @@ fn put_lines(text: &mut [u8], input: &[u8], n: usize) -> usize
 // Puts the lines of all groups of the input into text, which then holds them and zeros only, and answers how many octets
 // they take. Where text has no room for a longest line for each group, it gets none.
 pub fn list(input: &[u8], text: &mut [u8]) -> usize
-    ensures { λ r. ⌜ r ≡ length (told (now (input .entry)) (now (text .entry))) ⌝ }
-    ensures { λ _. ⌜ now (text .exit) ≡ holdsOnly (length (now (text .entry))) (told (now (input .entry)) (now (text .entry))) ⌝ }
+    ensures { λ r. ⌜ r ≡ length (linesIn (now (input .entry)) (now (text .entry))) ⌝ }
+    ensures { λ _. ⌜ now (text .exit) ≡ holdsOnly (length (now (text .entry))) (linesIn (now (input .entry)) (now (text .entry))) ⌝ }
 {
     let n = input.len() / 9 + (input.len() % 9 + 8) / 9;
     if text.len() / LONGEST < n {

@@ -7,15 +7,15 @@ use borrow.Author.Tests.{le-leb}
 use lib.ListN.{length, take, length-append}
 use lib.Seq.{take-append-seam, take-append-le}
 use Rattle.octets.specs.Octets.{holdsOnly}
-use Rattle.lines.specs.Listing.{groups, listed, longest, told}
-use Rattle.listing.specs.Steps.{Roomy, Lines}
+use Rattle.lines.specs.Listing.{groups, allLines, longest, linesIn}
+use Rattle.listing.specs.Steps.{HasRoom, Lines}
 
 -- where there is room, the lines are all there
-pub with-room : (s t : List ℕ) {t′ : List ℕ} {r : ℕ} → Roomy s t → r ≡ length (told s t) → t′ ≡ holdsOnly (length t) (told s t) → Lines s r t′
+pub with-room : (s t : List ℕ) {t′ : List ℕ} {r : ℕ} → HasRoom s t → r ≡ length (linesIn s t) → t′ ≡ holdsOnly (length t) (linesIn s t) → Lines s r t′
 with-room s t {t′} {r} room e f =
     let h = le-leb (groups s * longest) (length t) room in
-    let w : take r t′ ≡ listed s = rw (e, f, h, take-append-seam) in
-    let n : r ≡ length (listed s) = rw (e, h) in
+    let w : take r t′ ≡ allLines s = rw (e, f, h, take-append-seam) in
+    let n : r ≡ length (allLines s) = rw (e, h) in
     record {
       counts = (rw (f, h, length-append) (omega arith), n ∙ sym (ap length w));
       whole = w;

@@ -2,7 +2,7 @@
 ghost use mathlib.Core.Path.{_≡_};
 ghost use Prim.Native.Nat.{_+_, _<_, _≤_};
 ghost use lib.ListN.{length, take, drop};
-ghost use Rattle.listing.specs.Steps.{Roomy, Lines, heldBy};
+ghost use Rattle.listing.specs.Steps.{HasRoom, Lines, leftOver};
 use libc::STDIN_FILENO;
 use libc::STDOUT_FILENO;
 
@@ -22,7 +22,7 @@ enum Turn {
 
 // All lines of the octets. Only the room that they may need is lent, since all that is lent is wiped.
 fn list(octets: &[u8], text: &mut [u8]) -> usize
-    requires { ⌜ Roomy (now octets) (now text) ⌝ }
+    requires { ⌜ HasRoom (now octets) (now text) ⌝ }
     ensures { λ r. ⌜ Lines (now (octets .entry)) r (now (text .exit)) ⌝ }
 {
     let room = (octets.len() + 8) / 9 * lines::LONGEST;
@@ -31,7 +31,7 @@ fn list(octets: &[u8], text: &mut [u8]) -> usize
 
 // Writes the lines of octets, and answers whether all were written.
 fn show(octets: &[u8], text: &mut [u8]) -> bool
-    requires { ⌜ Roomy (now octets) (now text) ⌝ }
+    requires { ⌜ HasRoom (now octets) (now text) ⌝ }
 {
     let n = list(octets, text);
     io::write_all(STDOUT_FILENO, &text[..n])
@@ -51,8 +51,8 @@ fn keep(buffer: &mut [u8], from: usize, n: usize)
 
 // One read: its whole groups are shown, and what is left is held.
 fn take_turn(buffer: &mut [u8], text: &mut [u8], held: usize) -> Turn
-    requires { ⌜ (held < 9) × ((9 ≤ length (now buffer)) × Roomy (now buffer) (now text)) ⌝ }
-    ensures { λ r. ⌜ heldBy r < 9 ⌝ }
+    requires { ⌜ (held < 9) × ((9 ≤ length (now buffer)) × HasRoom (now buffer) (now text)) ⌝ }
+    ensures { λ r. ⌜ leftOver r < 9 ⌝ }
 {
     let got = libc::read(STDIN_FILENO, &mut buffer[held..]);
     if got < 0 {
@@ -73,7 +73,7 @@ fn take_turn(buffer: &mut [u8], text: &mut [u8], held: usize) -> Turn
 
 // What follows the last turn. A read that failed says nothing of the octets held, so they are not listed.
 fn finish(last: Turn, held: &[u8], text: &mut [u8])
-    requires { ⌜ Roomy (now held) (now text) ⌝ }
+    requires { ⌜ HasRoom (now held) (now text) ⌝ }
 {
     match last {
         Turn::ReadFailed => {
@@ -95,7 +95,7 @@ fn tell_unless(is_written: bool) {
 
 // A proved loop has to end, and nothing says that the input does, so the turns are counted down.
 fn list_input(buffer: &mut [u8], text: &mut [u8])
-    requires { ⌜ (9 ≤ length (now buffer)) × Roomy (now buffer) (now text) ⌝ }
+    requires { ⌜ (9 ≤ length (now buffer)) × HasRoom (now buffer) (now text) ⌝ }
 {
     let mut held = 0;
     let mut turns = u64::MAX;

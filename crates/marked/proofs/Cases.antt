@@ -7,19 +7,19 @@ use Rattle.octets.specs.Refusals.{firstOf, answer}
 use Rattle.codec.specs.NineOctets.{fieldTests, readTests}
 use Rattle.distance.specs.declared.Distance.{Distance}
 use Rattle.series.specs.Series.{someBelow, inBlock, reserves, lastSlot}
-use Rattle.sound.specs.Sound.{records, lasts}
+use Rattle.sound.specs.Sound.{Channel, records, lasts}
 use Rattle.table.specs.Table.{Table, clock}
-use Rattle.table.specs.Memory.{write, leaves}
+use Rattle.table.specs.Memory.{channelOf, leaves, says}
 use Rattle.table.specs.Slots.{stateBy, slotState, slotAnswer, slotOn}
 use Rattle.trace.specs.Machine.{runs}
-use Rattle.trace.specs.Records.{Sound, after, onRecords}
+use Rattle.trace.specs.Records.{Sound, leftOn, saidOn, onRecords}
 use Rattle.trace.proofs.Machine.{runs-good}
-use Rattle.trace.proofs.Written.{records-write, leaves-records, refined, empty, sound-lent, lent-runs}
-use Rattle.trace.proofs.Looks.{slot-write}
+use Rattle.trace.proofs.Written.{records-channelOf, leaves-records, refined, empty, roomForOne-sound, roomForOne-runs}
+use Rattle.trace.proofs.Looks.{slotAnswer-channelOf}
 use Rattle.search.specs.declared.Query.{Query}
-use Rattle.search.specs.Search.{level0, level1, qualifying, listed, statesOf, tests, refusal, found}
+use Rattle.search.specs.Search.{level0, level1, qualifying, listed, statesOf, searchTests, searchRefusal, found}
 use Rattle.marked.specs.Marked.{callsT, tableT, Marked}
-use Rattle.marked.proofs.Searches.{refusal-write, found-write}
+use Rattle.marked.proofs.Searches.{searchRefusal-channelOf, found-channelOf}
 
 -- ---- T's table over records
 
@@ -29,33 +29,40 @@ module _ (d : Distance) where
   held = runs onRecords (empty 4500 1) (callsT d)
 
   sound-held : Sound held
-  sound-held = runs-good refined (empty 4500 1) (callsT d) sound-lent
+  sound-held = runs-good refined (empty 4500 1) (callsT d) roomForOne-sound
 
   -- the octets are its
-  written : tableT d ≡ write held
-  written = lent-runs (callsT d)
+  written : tableT d ≡ channelOf held
+  written = roomForOne-runs (callsT d)
 
   -- ---- what is asked of it
 
   stored : records (tableT d) ≡ held .records
-  stored = rw written (records-write held sound-held)
+  stored = rw written (records-channelOf held sound-held)
 
   judged : (slot : ℕ) → slotAnswer (tableT d) slot ≡ slotOn held slot
-  judged slot = rw written (slot-write held slot sound-held)
+  judged slot = rw written (slotAnswer-channelOf held slot sound-held)
 
-  clocked : (slot : ℕ) → records (leaves (tableT d) (clock slot)) ≡ after held (clock slot) .records
-  clocked slot = rw written (leaves-records held sound-held (clock slot))
+  told : (slot : ℕ) → says (tableT d) (clock slot) ≡ saidOn held (clock slot)
+  told slot = rw written (refined .says held (clock slot) sound-held)
 
-  searched : (q : Query) → found (tableT d) q 3 ≡ answer (firstOf (tests held q 3)) (listed (statesOf held) q) (λ _. [])
-  searched q = rw written (found-write held sound-held q 3)
+  timed : (slot : ℕ) → leaves (tableT d) (clock slot) .now ≡ leftOn held (clock slot) .now
+  unfolding channelOf
+  timed slot = rw written (ap (λ (m : Channel). m .now) (refined .leaves held (clock slot) sound-held))
 
-  refused : (q : Query) → refusal (tableT d) q 3 ≡ firstOf (tests held q 3)
-  refused q = rw written (refusal-write held sound-held q 3)
+  swept : (slot : ℕ) → records (leaves (tableT d) (clock slot)) ≡ leftOn held (clock slot) .records
+  swept slot = rw written (leaves-records held sound-held (clock slot))
+
+  searched : (q : Query) → found (tableT d) q 3 ≡ answer (firstOf (searchTests held q 3)) (listed (statesOf held) q) (λ _. [])
+  searched q = rw written (found-channelOf held sound-held q 3)
+
+  refused : (q : Query) → searchRefusal (tableT d) q 3 ≡ firstOf (searchTests held q 3)
+  refused q = rw written (searchRefusal-channelOf held sound-held q 3)
 
 -- ---- the cases
 
 pub marked : Marked
-unfolding answer readTests fieldTests ofInt neg add mul le after lasts lastSlot slotState stateBy reserves someBelow inBlock level0 level1 qualifying listed
+unfolding answer readTests fieldTests ofInt neg add mul le leftOn saidOn lasts lastSlot slotState stateBy reserves someBelow inBlock level0 level1 qualifying listed
 marked =
     record {
       p1 = refl;
@@ -67,8 +74,8 @@ marked =
       p6-110 = judged _ _;
       p6-105 = judged _ _;
       p6-109 = judged _ _;
-      p7-kept = clocked _ _ ∙ sym (stored _);
-      p7-gone = clocked _ _;
+      p7-kept = (told _ _, timed _ _, swept _ _ ∙ sym (stored _));
+      p7-gone = (told _ _, timed _ _, swept _ _);
       p8 = searched _ _;
       p9 = searched _ _;
       p10 = refused _ _;

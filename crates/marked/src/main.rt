@@ -6,6 +6,7 @@ use libc::STDOUT_FILENO;
 use search::Query;
 use table::Request;
 use table::Slot;
+use table::SlotAnswer;
 use table::State;
 ghost use Prim.Native.Nat.{_≤_};
 ghost use Rattle.marked.specs.Marked.{Marked};
@@ -46,12 +47,18 @@ fn put_refused(n: u32) {
     put_number(n as u64);
 }
 
-fn put_slot(x: Slot) {
+fn put_state(x: Slot) {
     match x {
         Slot::Free => put(b" free"),
         Slot::Reusable => put(b" reusable"),
         Slot::Taken => put(b" taken"),
-        Slot::Refused(n) => put_refused(n),
+    }
+}
+
+fn put_slot(a: SlotAnswer) {
+    match a {
+        SlotAnswer::Is(x) => put_state(x),
+        SlotAnswer::Refused(n) => put_refused(n),
     }
 }
 
@@ -130,10 +137,18 @@ fn put_slots(s: State, memory: &[u8]) {
     put(b"\n");
 }
 
-// Whether T is there after a clock, which is made on a copy of its table.
-fn put_kept(s: State, memory: [u8; record::SIZE], slot: u32) {
+// What a clock answers, made on a copy of T's table: the refusal, if any, now, how many records were dropped, and whether T is there.
+fn put_clock(s: State, memory: [u8; record::SIZE], slot: u32) {
     let mut left = memory;
-    if s.clock(&mut left, slot).state.count == 1 {
+    let a = s.clock(&mut left, slot);
+    if a.refusal != 0 {
+        put_refused(a.refusal);
+    }
+    put(b" now");
+    put_number(a.state.now as u64);
+    put(b" dropped");
+    put_number(a.number as u64);
+    if a.state.count == 1 {
         put(b" kept");
     } else {
         put(b" gone");
@@ -142,8 +157,9 @@ fn put_kept(s: State, memory: [u8; record::SIZE], slot: u32) {
 
 fn put_clocks(s: State, memory: [u8; record::SIZE]) {
     put(b"P7");
-    put_kept(s, memory, 7609);
-    put_kept(s, memory, 7610);
+    put_clock(s, memory, 7609);
+    put(b",");
+    put_clock(s, memory, 7610);
     put(b"\n");
 }
 
@@ -232,7 +248,7 @@ fn request_blocks(rate: u32, bs: u32, length: u32) -> Request {
 }
 
 fn is_held(s: State, memory: &[u8], slot: u32) -> bool {
-    match table::slot_state(s, memory, slot) {
+    match table::judge(s, memory, slot) {
         Slot::Free => false,
         _ => true,
     }
@@ -269,7 +285,7 @@ fn put_spacing(name: &[u8], m1: u32, rate: u32) {
 
 // One far record is not enough for a slot that a near one also holds.
 fn put_near_and_far() {
-    let mut memory = [0u8; 24];
+    let mut memory = [0u8; 2 * record::SIZE];
     let near = reserve_t(&mut memory, Distance::Unknown);
     let both = near.reserve(&mut memory, request_t(2, Distance::Range(LIMIT)))
         .state;

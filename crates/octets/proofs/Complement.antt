@@ -10,20 +10,20 @@ use lib.IntN.{ℤ, pos, negsuc, natAbs, _+ℤ_}
 use lib.Signed.{ltZ, nonNeg}
 use lib.Dec.{T, ltb, eqb}
 use borrow.Author.Tests.{ltb-true, ltb-false, lt-ltb, le-ltb, eqb-true, eqb-false, ne-eqb}
-use Rattle.octets.specs.Complement.{signedOf, twosOf, badOffset}
+use Rattle.octets.specs.Complement.{signedOf, twosOf, beyond127}
 use Rattle.octets.proofs.Refusals.{or-eq-false}
 
 -- ---- an offset that is not bad
 
 -- what is not outside -127..127 has a size of at most 127
-pub offset-small : (z : ℤ) → badOffset z ≡ false → natAbs z ≤ 127
+pub offset-small : (z : ℤ) → beyond127 z ≡ false → natAbs z ≤ 127
 offset-small (pos n) h = ltb-false 127 n h
 offset-small (negsuc n) h = omega (arith, ltb-false 126 n (or-eq-false (ltb 126 n) false h .0))
 
 -- ---- there and back
 
 -- a number comes back from its octet
-pub signed-twos : (z : ℤ) → badOffset z ≡ false → signedOf (twosOf z) ≡ z
+pub signed-twos : (z : ℤ) → beyond127 z ≡ false → signedOf (twosOf z) ≡ z
 signed-twos (pos n) h = let l = offset-small (pos n) h in simp (lt-ltb n 128 (omega arith))
 signed-twos (negsuc n) h =
     let l = offset-small (negsuc n) h in
@@ -42,10 +42,10 @@ twos-signed n h = go (ltb n 128) refl
         simp (← e, lt-ltb n 256 h, k)
 
 -- of the octets, only 128 says a number outside -127..127
-pub octet-offset : (n : ℕ) → n < 256 → badOffset (signedOf n) ≡ eqb n 128
+pub octet-offset : (n : ℕ) → n < 256 → beyond127 (signedOf n) ≡ eqb n 128
 octet-offset n h = go (ltb n 128) (eqb n 128) refl refl
   where
-    go : (t u : Bool) → t ≡ ltb n 128 → u ≡ eqb n 128 → badOffset (signedOf n) ≡ u
+    go : (t u : Bool) → t ≡ ltb n 128 → u ≡ eqb n 128 → beyond127 (signedOf n) ≡ u
     go true u e f =
         let l : n < 128 = ltb-true n 128 (sym e) in
         simp (← e, le-ltb 127 n (omega arith)) (sym (ne-eqb n 128 (λ k. omega arith)) ∙ sym f)
@@ -60,12 +60,12 @@ octet-offset n h = go (ltb n 128) (eqb n 128) refl refl
 -- ---- twosOf, as code at 32 bits works it out
 
 -- it is an octet
-pub twos-octet : (z : ℤ) → badOffset z ≡ false → Fits w8 (twosOf z)
+pub twos-octet : (z : ℤ) → beyond127 z ≡ false → Fits w8 (twosOf z)
 twos-octet (pos n) h = record { fits = omega (arith, offset-small (pos n) h) }
 twos-octet (negsuc n) h = record { fits = omega arith }
 
 -- below 0, a number and 256 make its octet's number
-pub twos-below : (z : ℤ) → badOffset z ≡ false → ltZ z (pos 0) ≡ true → z +ℤ pos 256 ≡ pos (twosOf z)
+pub twos-below : (z : ℤ) → beyond127 z ≡ false → ltZ z (pos 0) ≡ true → z +ℤ pos 256 ≡ pos (twosOf z)
 twos-below (pos n) h l = let none : n < 0 = ltb-true n 0 l in absurd (omega arith)
 twos-below (negsuc n) h l =
     let k = offset-small (negsuc n) h in

@@ -7,7 +7,7 @@ use lib.IntN.{ℤ}
 use lib.Dec.{eqb}
 use lib.ListN.{length}
 use Rattle.octets.specs.Octets.{AreOctets, little, number, numberAt, putAt}
-use Rattle.octets.specs.Complement.{signedOf, twosOf, badOffset}
+use Rattle.octets.specs.Complement.{signedOf, twosOf, beyond127}
 
 pub record Claims : Type 0 where
   -- a number of w octets comes back from its octets
@@ -22,6 +22,6 @@ pub record Claims : Type 0 where
   -- in lent octets, what was written at a place is read there
   pub put-is-read : (w : ℕ) (m : List ℕ) (at n : ℕ) → at + w ≤ length m → n < 256 ^ w → numberAt w (putAt w m at n) at ≡ n
   -- two's complement: a number of -127..127 comes back from its octet, an octet from its number, and of the octets only 128 says a number outside
-  pub twos-is-signed : (z : ℤ) → badOffset z ≡ false → signedOf (twosOf z) ≡ z
+  pub twos-is-signed : (z : ℤ) → beyond127 z ≡ false → signedOf (twosOf z) ≡ z
   pub signed-is-twos : (n : ℕ) → n < 256 → twosOf (signedOf n) ≡ n
-  pub only-128 : (n : ℕ) → n < 256 → badOffset (signedOf n) ≡ eqb n 128
+  pub only-128 : (n : ℕ) → n < 256 → beyond127 (signedOf n) ≡ eqb n 128

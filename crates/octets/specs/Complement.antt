@@ -15,5 +15,5 @@ twosOf (pos n) = n
 twosOf (negsuc n) = 255 - n
 
 -- outside -127..127
-abbrev pub badOffset : ℤ → Bool
-badOffset bo = ltZ bo (negsuc 126) || ltZ (pos 127) bo
+abbrev pub beyond127 : ℤ → Bool
+beyond127 bo = ltZ bo (negsuc 126) || ltZ (pos 127) bo

@@ -8,7 +8,7 @@ use lib.Seq.{take-append-le, drop-append-le, take-at, drop-at, take-add, length-
 use Rattle.octets.specs.Octets.{AreOctets, little, number}
 use Rattle.octets.proofs.Octets.{are-octets-take, are-octets-drop, length-little, number-little, little-number}
 use Rattle.record.specs.declared.Rec.{Rec}
-use Rattle.record.specs.Record.{size, widths, fields, made, littles, numbers, encode, decode, Fit, FitRec}
+use Rattle.record.specs.Record.{size, widths, fields, recordOf, littles, numbers, encode, decode, Fit, FitRec}
 
 -- ---- numbers of any widths
 
@@ -67,12 +67,12 @@ length-encode r = simp (length-append, length-little)
 
 -- a record that fits comes back from its octets, whatever follows them
 pub decode-encode : (r : Rec) (after : List ℕ) → FitRec r → decode (encode r ++ after) ≡ r
-unfolding decode encode made fields
-decode-encode r after h = ap made (numbers-littles widths (fields r) after h)
+unfolding decode encode recordOf fields
+decode-encode r after h = ap recordOf (numbers-littles widths (fields r) after h)
 
 -- twelve octets come back from their record
 pub encode-decode : (m : List ℕ) → AreOctets m → size ≤ length m → encode (decode m) ≡ take size m
-unfolding decode encode made fields numbers size total
+unfolding decode encode recordOf fields numbers size total
 encode-decode m h fits = littles-numbers widths m h fits
 
 -- only the first octets are read
@@ -81,7 +81,7 @@ unfolding decode size
 decode-take m after h =
     let l : total widths ≤ length (take size m) = unfold total in simp length-take (omega arith) in
     let e = numbers-append widths (take size m) in
-    ap made (e after l ∙ sym (e (drop size m) l) ∙ ap (numbers widths) (take-append-drop size m))
+    ap recordOf (e after l ∙ sym (e (drop size m) l) ∙ ap (numbers widths) (take-append-drop size m))
 
 -- ---- FitRec
 

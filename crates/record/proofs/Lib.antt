@@ -1,6 +1,6 @@
 pub mod Cases
 pub mod Fields
-pub mod Views
+pub mod Images
 pub mod Places
 pub mod ToCome
 pub mod Packed

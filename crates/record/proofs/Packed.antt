@@ -12,9 +12,9 @@ use borrow.Author.Tests.{eq-eqb}
 use Rattle.octets.specs.Octets.{AreOctets, zeros}
 use Rattle.octets.proofs.Zeros.{zeros-replicate, zeros-true}
 use Rattle.record.specs.declared.Rec.{Rec}
-use Rattle.record.specs.Record.{size, AllFit, image, whole, capacity, rest, clearAfter, packed, view, put}
-use Rattle.record.proofs.Views.{same-capacity, whole-length, length-image, image-append, length-view, image-view, view-front, image-take, image-drop}
-use Rattle.record.proofs.Places.{put-end}
+use Rattle.record.specs.Record.{size, AllFit, image, whole, capacity, rest, clearAfter, packed, allRecords, stored}
+use Rattle.record.proofs.Images.{same-capacity, whole-length, length-image, image-append, length-allRecords, image-allRecords, allRecords-front, image-take, image-drop}
+use Rattle.record.proofs.Places.{stored-end}
 
 -- ---- what is read of a packed memory
 
@@ -35,9 +35,9 @@ module _ (cap : ℕ) (rs : List Rec) (h : length rs ≤ cap) where
   capacity-packed = div-eq-of-eq-mul-left (unfold size in lit< tt) length-packed
 
   -- and the records are
-  pub view-packed : AllFit rs → take (length rs) (view (packed cap rs)) ≡ rs
+  pub allRecords-packed : AllFit rs → take (length rs) (allRecords (packed cap rs)) ≡ rs
   unfolding packed
-  view-packed f = view-front rs (replicate ((cap - length rs) * size) 0) f (unfold packed in rw capacity-packed h)
+  allRecords-packed f = allRecords-front rs (replicate ((cap - length rs) * size) 0) f (unfold packed in rw capacity-packed h)
 
 -- behind the records all octets are 0
 pub rest-packed : (cap : ℕ) (rs : List Rec) → zeros (rest (length rs) (packed cap rs)) ≡ true
@@ -70,7 +70,7 @@ tail-length n cap k e = omega arith
 
 -- records at the front of a memory w as long as m, with the rest made 0
 pub packed-front : (m w : List ℕ) (rs : List Rec) → AreOctets w → whole m ≡ true → length w ≡ length m → length rs ≤ capacity m
-    → take (length rs) (view w) ≡ rs → clearAfter (length rs) w ≡ packed (capacity m) rs
+    → take (length rs) (allRecords w) ≡ rs → clearAfter (length rs) w ≡ packed (capacity m) rs
 unfolding packed clearAfter
 packed-front m w rs b h l r f =
     let e = whole-length m h in
@@ -95,31 +95,31 @@ module _ (m : List ℕ) (n : ℕ) (b : AreOctets m) (w : whole m ≡ true) (h : 
   tail = rw (length-drop, tail-length (length m) (capacity m) n (whole-length m w)) at (zeros-true (drop (n * size) m) (unfold rest in z))
 
   -- there are n of them
-  length-first : length (take n (view m)) ≡ n
-  length-first = length-take-le n (view m) (rw length-view h)
+  length-first : length (take n (allRecords m)) ≡ n
+  length-first = length-take-le n (allRecords m) (rw length-allRecords h)
 
   -- it is packed
-  pub packed-view : packed (capacity m) (take n (view m)) ≡ m
+  pub packed-allRecords : packed (capacity m) (take n (allRecords m)) ≡ m
   unfolding packed
-  packed-view = rw (image-take m b (whole-length m w) n h, length-first, ← tail) (take-append-drop (n * size) m)
+  packed-allRecords = rw (image-take m b (whole-length m w) n h, length-first, ← tail) (take-append-drop (n * size) m)
 
   -- and so with one record more
-  pub packed-end : (x : Rec) → n < capacity m → put m n x ≡ packed (capacity m) (take n (view m) ++ (x ∷ []))
+  pub packed-end : (x : Rec) → n < capacity m → stored m n x ≡ packed (capacity m) (take n (allRecords m) ++ (x ∷ []))
   unfolding packed
   packed-end x l =
-      let k : length (take n (view m) ++ (x ∷ [])) ≡ n + 1 = length-append (take n (view m)) (x ∷ []) ∙ ap (λ j. j + 1) length-first in
+      let k : length (take n (allRecords m) ++ (x ∷ [])) ≡ n + 1 = length-append (take n (allRecords m)) (x ∷ []) ∙ ap (λ j. j + 1) length-first in
       let e : drop (n * size + size) m ≡ replicate ((capacity m - (n + 1)) * size) 0 =
       sym (drop-drop size (n * size) m) ∙ ap (drop size) (tail ∙ ap (λ j. replicate j 0) (one-less (capacity m) n l)) ∙ drop-zeros size ((capacity m - (n + 1)) * size) in
-      put-end m n x b (whole-length m w) l ∙ rw (e, k)
+      stored-end m n x b (whole-length m w) l ∙ rw (e, k)
 
   -- and with its records changed, each in its place
-  pub packed-map : (f : Rec → Rec) (x : List ℕ) → AreOctets x → length x ≡ length m → view x ≡ map f (take n (view m)) ++ drop n (view m)
-      → x ≡ packed (capacity m) (map f (take n (view m)))
+  pub packed-map : (f : Rec → Rec) (x : List ℕ) → AreOctets x → length x ≡ length m → allRecords x ≡ map f (take n (allRecords m)) ++ drop n (allRecords m)
+      → x ≡ packed (capacity m) (map f (take n (allRecords m)))
   unfolding packed
   packed-map f x bx l e =
       let c = same-capacity x m l in
-      let k : length (map f (take n (view m))) ≡ n = length-map (take n (view m)) f ∙ length-first in
-      sym (image-view x bx (rw c (l ∙ whole-length m w)))
+      let k : length (map f (take n (allRecords m))) ≡ n = length-map (take n (allRecords m)) f ∙ length-first in
+      sym (image-allRecords x bx (rw c (l ∙ whole-length m w)))
       ∙ ap image e
-      ∙ image-append (map f (take n (view m))) (drop n (view m))
+      ∙ image-append (map f (take n (allRecords m))) (drop n (allRecords m))
       ∙ rw (image-drop m b (whole-length m w) n h, tail, k)

@@ -10,26 +10,26 @@ use lib.Seq.{drop-at, take-add, drop-drop, length-take-le, sets, sets-eq, length
 use Rattle.octets.specs.Octets.{AreOctets, little, numberAt, putAt}
 use Rattle.octets.proofs.Octets.{numberAt-in, putAt-behind}
 use Rattle.record.specs.declared.Rec.{Rec}
-use Rattle.record.specs.Record.{size, fields, made, littles, numbers, encode, decode, blank, FitRec, image, capacity, views, view, put}
+use Rattle.record.specs.Record.{size, fields, recordOf, littles, numbers, encode, decode, blank, FitRec, image, capacity, firstRecords, allRecords, stored}
 use Rattle.record.proofs.Fields.{length-encode, decode-encode, decode-take}
-use Rattle.record.proofs.Views.{capacity-fits, same-capacity, image-append, image-take}
+use Rattle.record.proofs.Images.{capacity-fits, same-capacity, image-append, image-take}
 
 -- ---- reading record i
 
 -- record i of the first n says what its octets do
-getD-views : (n : ℕ) (m : List ℕ) (i : ℕ) (d : Rec) → i < n → getD (views n m) i d ≡ decode (drop (i * size) m)
-unfolding views
-getD-views zero m i d h = absurd (omega arith)
-getD-views (suc n) m zero d h = rw zero-mul
-getD-views (suc n) m (suc i) d h =
-    rw (getD-views n (drop size m) i d (omega arith), drop-drop (i * size) size m, suc-mul i size, add-comm size (i * size))
+getD-firstRecords : (n : ℕ) (m : List ℕ) (i : ℕ) (d : Rec) → i < n → getD (firstRecords n m) i d ≡ decode (drop (i * size) m)
+unfolding firstRecords
+getD-firstRecords zero m i d h = absurd (omega arith)
+getD-firstRecords (suc n) m zero d h = rw zero-mul
+getD-firstRecords (suc n) m (suc i) d h =
+    rw (getD-firstRecords n (drop size m) i d (omega arith), drop-drop (i * size) size m, suc-mul i size, add-comm size (i * size))
 
 -- so of all records: its octets are a part of the memory
-pub decode-part : (m : List ℕ) (i : ℕ) → i < capacity m → decode (take size (drop (i * size) m)) ≡ getD (view m) i blank
-unfolding view
+pub decode-part : (m : List ℕ) (i : ℕ) → i < capacity m → decode (take size (drop (i * size) m)) ≡ getD (allRecords m) i blank
+unfolding allRecords
 decode-part m i h =
     let l : size ≤ length (drop (i * size) m) = rw length-drop (unfold capacity size in omega arith) in
-    ap decode (sym (append-nil (take size (drop (i * size) m)))) ∙ decode-take (drop (i * size) m) [] l ∙ sym (getD-views (capacity m) m i blank h)
+    ap decode (sym (append-nil (take size (drop (i * size) m)))) ∙ decode-take (drop (i * size) m) [] l ∙ sym (getD-firstRecords (capacity m) m i blank h)
 
 -- one record's numbers, each at its place
 pub decode-at : (s : List ℕ) → length s ≡ size
@@ -41,7 +41,7 @@ pub decode-at : (s : List ℕ) → length s ≡ size
       length = numberAt 1 s 10;
       far = numberAt 1 s 11;
     }
-unfolding decode numbers made size
+unfolding decode numbers recordOf size
 decode-at s l =
     rw (
       numberAt-in 4 s 0 (omega arith),
@@ -56,13 +56,13 @@ decode-at s l =
 -- ---- writing record i
 
 -- octets of a record written at place i: of the first n records, that one is set
-set-views : (n : ℕ) (m : List ℕ) (i : ℕ) (r : Rec) → FitRec r → i < n → n * size ≤ length m
-    → views n (take (i * size) m ++ (encode r ++ drop (i * size + size) m)) ≡ set (views n m) i r
-unfolding views
-set-views zero m i r h l fits = absurd (omega arith)
-set-views (suc n) m zero r h l fits =
+set-firstRecords : (n : ℕ) (m : List ℕ) (i : ℕ) (r : Rec) → FitRec r → i < n → n * size ≤ length m
+    → firstRecords n (take (i * size) m ++ (encode r ++ drop (i * size + size) m)) ≡ set (firstRecords n m) i r
+unfolding firstRecords
+set-firstRecords zero m i r h l fits = absurd (omega arith)
+set-firstRecords (suc n) m zero r h l fits =
     rw (zero-mul, zero-add, decode-encode r (drop size m) h, drop-at (encode r) (drop size m) size (length-encode r))
-set-views (suc n) m (suc i) r h l fits =
+set-firstRecords (suc n) m (suc i) r h l fits =
     let f : n * size + size ≤ length m = rw (suc-mul n size) at fits in
     let a = i * size in
     let m′ = drop size m in
@@ -72,9 +72,9 @@ set-views (suc n) m (suc i) r h l fits =
     rw (
       e,
       drop-at (take size m) after size (length-take-le size m (omega arith)),
-      set-views n m′ i r h (omega arith) (simp length-drop (omega arith)),
+      set-firstRecords n m′ i r h (omega arith) (simp length-drop (omega arith)),
     )
-    (ap (λ (x : Rec). x ∷ set (views n m′) i r) (decode-take m after (omega arith)))
+    (ap (λ (x : Rec). x ∷ set (firstRecords n m′) i r) (decode-take m after (omega arith)))
 
 -- octets written over, as what stands before and after them
 sets-encode : (m : List ℕ) (i : ℕ) (r : Rec) → i < capacity m
@@ -84,29 +84,29 @@ sets-encode m i r h =
     sets-eq (encode r) m (i * size) l ∙ rw (length-encode r, append-assoc)
 
 -- so of all records
-set-view : (m : List ℕ) (i : ℕ) (r : Rec) → FitRec r → i < capacity m → view (sets m (i * size) (encode r)) ≡ set (view m) i r
-unfolding view
-set-view m i r h l =
-    rw (same-capacity (sets m (i * size) (encode r)) m (rw length-sets), sets-encode m i r l) (set-views (capacity m) m i r h l (capacity-fits m))
+set-allRecords : (m : List ℕ) (i : ℕ) (r : Rec) → FitRec r → i < capacity m → allRecords (sets m (i * size) (encode r)) ≡ set (allRecords m) i r
+unfolding allRecords
+set-allRecords m i r h l =
+    rw (same-capacity (sets m (i * size) (encode r)) m (rw length-sets), sets-encode m i r l) (set-firstRecords (capacity m) m i r h l (capacity-fits m))
 
 -- ---- put
 
 -- in the memory, the octets of the record are written
-put-at : (m : List ℕ) (i : ℕ) (r : Rec) → i < capacity m → put m i r ≡ sets m (i * size) (encode r)
-unfolding put
-put-at m i r h = rw (lt-ltb i (capacity m) h)
+stored-at : (m : List ℕ) (i : ℕ) (r : Rec) → i < capacity m → stored m i r ≡ sets m (i * size) (encode r)
+unfolding stored
+stored-at m i r h = rw (lt-ltb i (capacity m) h)
 
 -- past its last record, nothing is
-pub put-out : (m : List ℕ) (i : ℕ) (r : Rec) → capacity m ≤ i → put m i r ≡ m
-unfolding put
-put-out m i r h = rw (le-ltb i (capacity m) h)
+pub stored-out : (m : List ℕ) (i : ℕ) (r : Rec) → capacity m ≤ i → stored m i r ≡ m
+unfolding stored
+stored-out m i r h = rw (le-ltb i (capacity m) h)
 
 -- after the first i records it is one record more
-pub put-end : (m : List ℕ) (i : ℕ) (r : Rec) → AreOctets m → length m ≡ capacity m * size → i < capacity m
-    → put m i r ≡ image (take i (view m) ++ (r ∷ [])) ++ drop (i * size + size) m
+pub stored-end : (m : List ℕ) (i : ℕ) (r : Rec) → AreOctets m → length m ≡ capacity m * size → i < capacity m
+    → stored m i r ≡ image (take i (allRecords m) ++ (r ∷ [])) ++ drop (i * size + size) m
 unfolding image
-put-end m i r h e l =
-    put-at m i r l ∙ sets-encode m i r l
+stored-end m i r h e l =
+    stored-at m i r l ∙ sets-encode m i r l
     ∙ rw (image-append, append-nil, image-take m h e i (omega arith), append-assoc)
 
 -- one record's numbers, each written at its place
@@ -131,8 +131,8 @@ encode-at s r l =
     (sets-eq x₆ s 0 (omega arith) ∙ rw (drop-of-length-le s {i = 12} (omega arith)))
 
 -- what a store of record i promises
-pub put-stored : (x m : List ℕ) (i : ℕ) (r : Rec) → FitRec r → i < capacity m → x ≡ take (i * size) m ++ (encode r ++ drop (i * size + size) m)
-    → (x ≡ put m i r) × (view x ≡ set (view m) i r)
-put-stored x m i r h l p =
+pub store-promised : (x m : List ℕ) (i : ℕ) (r : Rec) → FitRec r → i < capacity m → x ≡ take (i * size) m ++ (encode r ++ drop (i * size + size) m)
+    → (x ≡ stored m i r) × (allRecords x ≡ set (allRecords m) i r)
+store-promised x m i r h l p =
     let e = p ∙ sym (sets-encode m i r l) in
-    (e ∙ sym (put-at m i r l), ap view e ∙ set-view m i r h l)
+    (e ∙ sym (stored-at m i r l), ap allRecords e ∙ set-allRecords m i r h l)

@@ -6,7 +6,7 @@ use mathlib.Core.List.{List, [], _∷_}
 use lib.ListN.{length as len, take}
 use Rattle.octets.specs.Octets.{AreOctets, zeros}
 use Rattle.record.specs.declared.Rec.{Rec}
-use Rattle.record.specs.Record.{encode, AllFit, image, whole, capacity, rest, packed, view}
+use Rattle.record.specs.Record.{encode, AllFit, image, whole, capacity, rest, packed, allRecords}
 
 -- the octets of one record, in 01's order and little-endian: that records come back does not tell
 abbrev pub OneRecord : Type 0
@@ -16,9 +16,9 @@ OneRecord =
 
 pub record Claims : Type 0 where
   -- records whose numbers fit come back from their octets
-  pub written-is-read : (rs : List Rec) → AllFit rs → view (image rs) ≡ rs
+  pub written-is-read : (rs : List Rec) → AllFit rs → allRecords (image rs) ≡ rs
   -- the octets of a whole number of records come back from the records
-  pub read-is-written : (m : List ℕ) → AreOctets m → whole m ≡ true → image (view m) ≡ m
+  pub read-is-written : (m : List ℕ) → AreOctets m → whole m ≡ true → image (allRecords m) ≡ m
   -- 12 octets for each record, and no others
   pub written-length : (rs : List Rec) → len (image rs) ≡ len rs * 12
   pub one-record : OneRecord
@@ -27,9 +27,9 @@ pub record Claims : Type 0 where
       (cap : ℕ) (rs : List Rec) → AllFit rs → len rs ≤ cap
       → (whole (packed cap rs) ≡ true)
       × (capacity (packed cap rs) ≡ cap)
-      × (take (len rs) (view (packed cap rs)) ≡ rs)
+      × (take (len rs) (allRecords (packed cap rs)) ≡ rs)
       × (zeros (rest (len rs) (packed cap rs)) ≡ true)
   -- a memory with nothing after its first n records is packed
   pub read-is-packed :
       (m : List ℕ) (n : ℕ) → AreOctets m → whole m ≡ true → n ≤ capacity m → zeros (rest n m) ≡ true
-      → packed (capacity m) (take n (view m)) ≡ m
+      → packed (capacity m) (take n (allRecords m)) ≡ m

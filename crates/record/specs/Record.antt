@@ -23,8 +23,8 @@ unfoldable pub fields : Rec → List ℕ
 fields r = r .station ∷ r .first ∷ r .rate ∷ r .superframes ∷ r .length ∷ r .far ∷ []
 
 -- the record of numbers in this order
-unfoldable pub made : List ℕ → Rec
-made ns =
+unfoldable pub recordOf : List ℕ → Rec
+recordOf ns =
     record { station = getD ns 0 0; first = getD ns 1 0; rate = getD ns 2 0; superframes = getD ns 3 0; length = getD ns 4 0; far = getD ns 5 0 }
 
 -- numbers little-endian, each in the octets of its width, one after the other
@@ -44,7 +44,7 @@ encode r = littles widths (fields r)
 
 -- the record that the first octets say
 unfoldable pub decode : List ℕ → Rec
-decode bs = made (numbers widths bs)
+decode bs = recordOf (numbers widths bs)
 
 -- the record of zeros
 unfoldable pub blank : Rec
@@ -95,14 +95,14 @@ unfoldable pub packed : ℕ → List Rec → List ℕ
 packed cap rs = image rs ++ replicate ((cap - len rs) * size) 0
 
 -- the first n records of a memory
-unfoldable pub views : ℕ → List ℕ → List Rec
-views zero m = []
-views (suc n) m = decode m ∷ views n (drop size m)
+unfoldable pub firstRecords : ℕ → List ℕ → List Rec
+firstRecords zero m = []
+firstRecords (suc n) m = decode m ∷ firstRecords n (drop size m)
 
 -- all records that a memory has room for, those past the count too
-unfoldable pub view : List ℕ → List Rec
-view m = views (capacity m) m
+unfoldable pub allRecords : List ℕ → List Rec
+allRecords m = firstRecords (capacity m) m
 
 -- a memory with record i written over; past the last record, as it was
-unfoldable pub put : List ℕ → ℕ → Rec → List ℕ
-put m i r = cond (ltb i (capacity m)) (sets m (i * size) (encode r)) m
+unfoldable pub stored : List ℕ → ℕ → Rec → List ℕ
+stored m i r = cond (ltb i (capacity m)) (sets m (i * size) (encode r)) m

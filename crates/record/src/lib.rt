@@ -3,7 +3,7 @@ ghost use mathlib.Core.Path.{_≡_};
 ghost use Prim.Native.Nat.{_+_, _*_, _≤_, min};
 ghost use lib.ListN.{length, getD, set, take};
 ghost use Rattle.octets.specs.Octets.{zeros};
-ghost use Rattle.record.specs.Record.{encode, decode, blank, whole, capacity, rest, clearAfter, view, put};
+ghost use Rattle.record.specs.Record.{encode, decode, blank, whole, capacity, rest, clearAfter, allRecords, stored};
 ghost use Rattle.record.specs.Claims.{Claims};
 
 // The octets of a record.
@@ -51,7 +51,7 @@ fn encode_over(s: &mut [u8], r: Rec)
 // Record i of those that the memory has room for. Its octets are a part of the memory, of a length that the compiler knows.
 fn load_at(memory: &[u8], i: usize) -> Rec
     requires { ⌜ i * 12 + 12 ≤ length (now memory) ⌝ }
-    ensures { λ r. ⌜ r ≡ getD (view (now (memory .entry))) i blank ⌝ }
+    ensures { λ r. ⌜ r ≡ getD (allRecords (now (memory .entry))) i blank ⌝ }
 {
     let a = i * SIZE;
     let e = a + SIZE;
@@ -61,8 +61,8 @@ fn load_at(memory: &[u8], i: usize) -> Rec
 // Writes r over record i of those that the memory has room for.
 fn store_at(memory: &mut [u8], i: usize, r: Rec)
     requires { ⌜ i * 12 + 12 ≤ length (now memory) ⌝ }
-    ensures octets { λ _. ⌜ now (memory .exit) ≡ put (now (memory .entry)) i r ⌝ }
-    ensures records { λ _. ⌜ view (now (memory .exit)) ≡ set (view (now (memory .entry))) i r ⌝ }
+    ensures octets { λ _. ⌜ now (memory .exit) ≡ stored (now (memory .entry)) i r ⌝ }
+    ensures records { λ _. ⌜ allRecords (now (memory .exit)) ≡ set (allRecords (now (memory .entry))) i r ⌝ }
 {
     let a = i * SIZE;
     let e = a + SIZE;
@@ -85,7 +85,7 @@ pub fn capacity(memory: &[u8]) -> usize
 
 // How many of the first n records there are. In a loop up to it the compiler leaves out load's own test.
 pub fn held_count(memory: &[u8], n: usize) -> usize
-    ensures { λ r. ⌜ (r ≡ min n (capacity (now (memory .entry)))) × (r ≤ capacity (now (memory .entry))) × (take r (view (now (memory .entry))) ≡ take n (view (now (memory .entry)))) ⌝ }
+    ensures { λ r. ⌜ (r ≡ min n (capacity (now (memory .entry)))) × (r ≤ capacity (now (memory .entry))) × (take r (allRecords (now (memory .entry))) ≡ take n (allRecords (now (memory .entry)))) ⌝ }
 {
     let all = capacity(memory);
     if n < all {
@@ -115,7 +115,7 @@ pub fn clear(memory: &mut [u8], n: usize)
 
 // Record i; past the last, the record of zeros.
 pub fn load(memory: &[u8], i: usize) -> Rec
-    ensures { λ r. ⌜ r ≡ getD (view (now (memory .entry))) i blank ⌝ }
+    ensures { λ r. ⌜ r ≡ getD (allRecords (now (memory .entry))) i blank ⌝ }
 {
     if i < memory.len() / SIZE {
         return load_at(memory, i);
@@ -132,8 +132,8 @@ pub fn load(memory: &[u8], i: usize) -> Rec
 
 // Writes r over record i; past the last, nothing is written.
 pub fn store(memory: &mut [u8], i: usize, r: Rec)
-    ensures octets { λ _. ⌜ now (memory .exit) ≡ put (now (memory .entry)) i r ⌝ }
-    ensures records { λ _. ⌜ view (now (memory .exit)) ≡ set (view (now (memory .entry))) i r ⌝ }
+    ensures octets { λ _. ⌜ now (memory .exit) ≡ stored (now (memory .entry)) i r ⌝ }
+    ensures records { λ _. ⌜ allRecords (now (memory .exit)) ≡ set (allRecords (now (memory .entry))) i r ⌝ }
 {
     if i < memory.len() / SIZE {
         store_at(memory, i, r);

@@ -12,9 +12,9 @@ use Rattle.octets.specs.Octets.{holdsOnly}
 use Rattle.octets.specs.Refusals.{firstOf}
 use Rattle.octets.proofs.Refusals.{firstOf-append, firstOf-stop, firstOf-zero, outside-false, or-eq-false, answer-refused, answer-accepted}
 use Rattle.sound.specs.Sound.{Channel, sound}
-use Rattle.table.specs.Memory.{read}
+use Rattle.table.specs.Memory.{tableOf}
 use Rattle.search.specs.declared.Query.{Query}
-use Rattle.search.specs.Search.{statesOf, listed, queryTests, slotTests, refusal, found, searched, listAfter}
+use Rattle.search.specs.Search.{statesOf, listed, queryTests, slotTests, searchRefusal, found, searched, listAfter}
 use Rattle.search.specs.Steps.{WellAsked}
 use Rattle.search.proofs.Listed.{listed-none}
 
@@ -41,7 +41,7 @@ well-asked m1 now q places z =
 
 -- what it lists, where it is not refused
 abbrev pub answered : Channel → Query → List ℕ
-answered m q = listed (statesOf (read m)) q
+answered m q = listed (statesOf (tableOf m)) q
 
 module _ (m : Channel) (q : Query) (places : ℕ) where
   -- the refusals for which no slot is looked at
@@ -51,29 +51,29 @@ module _ (m : Channel) (q : Query) (places : ℕ) where
   -- ---- which refusal
 
   -- 11 where the table isn't sound
-  pub refusal-unsound : sound m ≡ false → 11 ≡ refusal m q places
-  unfolding refusal
-  refusal-unsound h = rw h
+  pub searchRefusal-unsound : sound m ≡ false → 11 ≡ searchRefusal m q places
+  unfolding searchRefusal
+  searchRefusal-unsound h = rw h
 
   -- else the one for which no slot is looked at
-  pub refusal-asked : sound m ≡ true → (asked ≡ 0 → ⊥) → asked ≡ refusal m q places
-  unfolding refusal read
-  refusal-asked h z = rw h (sym (firstOf-stop (queryTests (m .m1) (m .now) q places) (slotTests (statesOf (read m)) q) z))
+  pub searchRefusal-asked : sound m ≡ true → (asked ≡ 0 → ⊥) → asked ≡ searchRefusal m q places
+  unfolding searchRefusal tableOf
+  searchRefusal-asked h z = rw h (sym (firstOf-stop (queryTests (m .m1) (m .now) q places) (slotTests (statesOf (tableOf m)) q) z))
 
   -- else by the number found
-  refusal-looked : sound m ≡ true → asked ≡ 0 → refusal m q places ≡ cond (eqb (len (answered m q)) 0) 21 0
-  unfolding refusal read
-  refusal-looked h z =
+  searchRefusal-looked : sound m ≡ true → asked ≡ 0 → searchRefusal m q places ≡ cond (eqb (len (answered m q)) 0) 21 0
+  unfolding searchRefusal tableOf
+  searchRefusal-looked h z =
       rw (
         h,
-        firstOf-append (queryTests (m .m1) (m .now) q places) (slotTests (statesOf (read m)) q) refl z,
-        listed-none (statesOf (read m)) q (well-asked (m .m1) (m .now) q places z .some-wanted),
+        firstOf-append (queryTests (m .m1) (m .now) q places) (slotTests (statesOf (tableOf m)) q) refl z,
+        listed-none (statesOf (tableOf m)) q (well-asked (m .m1) (m .now) q places z .some-wanted),
       )
 
   -- ---- what is given
 
   -- a refused search: its number, and a wiped list
-  pub refused-gives : (n : ℕ) → n ≡ refusal m q places → (n ≡ 0 → ⊥)
+  pub refused-gives : (n : ℕ) → n ≡ searchRefusal m q places → (n ≡ 0 → ⊥)
       → (record { refusal = n; number = 0 } ≡ searched m q places) × (holdsOnly places [] ≡ listAfter m q places)
   unfolding searched listAfter found
   refused-gives n e h =
@@ -84,7 +84,7 @@ module _ (m : Channel) (q : Query) (places : ℕ) where
     -- none found
     pub none-gives : len (answered m q) ≡ 0 → (record { refusal = 21; number = 0 } ≡ searched m q places) × (holdsOnly places (answered m q) ≡ listAfter m q places)
     none-gives e =
-        let g = refused-gives 21 (sym (refusal-looked h z ∙ rw (eq-eqb (len (answered m q)) 0 e))) (omega arith) in
+        let g = refused-gives 21 (sym (searchRefusal-looked h z ∙ rw (eq-eqb (len (answered m q)) 0 e))) (omega arith) in
         let none : [] ≡ answered m q = take-all 0 (answered m q) (omega arith) in
         (g .0, rw (← none) (g .1))
 
@@ -93,6 +93,6 @@ module _ (m : Channel) (q : Query) (places : ℕ) where
         → (record { refusal = 0; number = len (answered m q) } ≡ searched m q places) × (holdsOnly places (answered m q) ≡ listAfter m q places)
     unfolding searched listAfter found
     some-gives e =
-        let r : 0 ≡ refusal m q places = sym (refusal-looked h z ∙ rw (ne-eqb (len (answered m q)) 0 e)) in
+        let r : 0 ≡ searchRefusal m q places = sym (searchRefusal-looked h z ∙ rw (ne-eqb (len (answered m q)) 0 e)) in
         let some : answered m q ≡ found m q places = answer-accepted (answered m q) (λ _. []) r in
         (rw (← some, ← r), rw (← some))

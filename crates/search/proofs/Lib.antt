@@ -1,4 +1,4 @@
-pub mod Run
+pub mod Streak
 pub mod Filled
 pub mod Listed
 pub mod Scanned

@@ -6,7 +6,7 @@ use lib.Dec.{ltb}
 use lib.ListN.{set}
 use Rattle.table.specs.declared.Slot.{Slot}
 use Rattle.search.specs.declared.Query.{Query}
-use Rattle.search.specs.declared.Runs.{Runs}
+use Rattle.search.specs.declared.Streaks.{Streaks}
 use Rattle.search.specs.Search.{isFree, isTaken}
 
 -- what the tests before 21 leave of a query
@@ -20,22 +20,22 @@ pub record WellAsked (q : Query) (places : ℕ) : Type 0 where
   pub has-room : q .wanted ≤ places
 
 -- how many of the n numbers from lo on, counted from the last back, pass one after the other
-unfoldable pub run : (ℕ → Bool) → ℕ → ℕ → ℕ
-run p lo zero = 0
-run p lo (suc n) = cond (p (lo + n)) (run p lo n + 1) 0
+unfoldable pub streak : (ℕ → Bool) → ℕ → ℕ → ℕ
+streak p lo zero = 0
+streak p lo (suc n) = cond (p (lo + n)) (streak p lo n + 1) 0
 
--- the run of free slots and the run of slots that are not taken
-unfoldable pub runs : (ℕ → Slot) → ℕ → ℕ → Runs
-runs states lo n = record { free = run (λ slot. isFree (states slot)) lo n; untaken = run (λ slot. not (isTaken (states slot))) lo n }
+-- the streak of free slots and the streak of slots that are not taken
+unfoldable pub streaks : (ℕ → Slot) → ℕ → ℕ → Streaks
+streaks states lo n = record { free = streak (λ slot. isFree (states slot)) lo n; untaken = streak (λ slot. not (isTaken (states slot))) lo n }
 
--- the runs with one slot more
-abbrev pub further : Runs → Slot → Runs
+-- the streaks with one slot more
+abbrev pub further : Streaks → Slot → Streaks
 further r x = record { free = cond (isFree x) (r .free + 1) 0; untaken = cond (not (isTaken x)) (r .untaken + 1) 0 }
 
 -- a start put at place n, if it fits and n is below most
-abbrev pub put : Bool → ℕ → ℕ → ℕ → List ℕ → List ℕ
-put fits n most start xs = cond (fits && ltb n most) (set xs n start) xs
+abbrev pub pushed : Bool → ℕ → ℕ → ℕ → List ℕ → List ℕ
+pushed fits n most start xs = cond (fits && ltb n most) (set xs n start) xs
 
 -- and the next place
-abbrev pub next : Bool → ℕ → ℕ → ℕ
-next fits n most = cond (fits && ltb n most) (n + 1) n
+abbrev pub pushedNext : Bool → ℕ → ℕ → ℕ
+pushedNext fits n most = cond (fits && ltb n most) (n + 1) n

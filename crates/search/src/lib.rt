@@ -7,9 +7,9 @@ ghost use Prim.Native.Nat.{_+_, _≤_, _<_};
 ghost use lib.ListN.{length, take};
 ghost use Rattle.octets.specs.Octets.{holdsOnly};
 ghost use Rattle.octets.specs.Refusals.{firstOf};
-ghost use Rattle.table.specs.Memory.{channel, read};
+ghost use Rattle.table.specs.Memory.{channel, tableOf};
 ghost use Rattle.search.specs.Search.{statesOf, queryTests, listed, listAfter, searched, picked};
-ghost use Rattle.search.specs.Steps.{further, runs, next, put, WellAsked};
+ghost use Rattle.search.specs.Steps.{further, streaks, pushedNext, pushed, WellAsked};
 ghost use Rattle.search.specs.Claims.{Claims};
 
 // What a search is given: where a block may start, its length, and how many starts are wanted.
@@ -33,7 +33,7 @@ pub struct Picked {
 }
 
 // How many of the slots judged last are free, one after the other, and how many are not taken.
-struct Runs {
+struct Streaks {
     free: u32,
     untaken: u32,
 }
@@ -79,39 +79,35 @@ fn wipe(list: &mut [u32])
     }
 }
 
-// ---- the runs up to a slot
+// ---- the streaks up to a slot
 
-// The runs with one slot more. A judged slot is never refused, and counts here as the definitions have it: neither free nor taken.
-fn lengthen(r: Runs, x: Slot) -> Runs
+// The streaks with one slot more.
+fn lengthen(r: Streaks, x: Slot) -> Streaks
     requires { ⌜ (r .free < 4294967295) × (r .untaken < 4294967295) ⌝ }
     ensures { λ v. ⌜ v ≡ further r x ⌝ }
 {
     match x {
-        Slot::Free => Runs {
+        Slot::Free => Streaks {
             free: r.free + 1,
             untaken: r.untaken + 1,
         },
-        Slot::Taken => Runs {
+        Slot::Taken => Streaks {
             free: 0,
             untaken: 0,
         },
-        Slot::Reusable => Runs {
-            free: 0,
-            untaken: r.untaken + 1,
-        },
-        Slot::Refused(_) => Runs {
+        Slot::Reusable => Streaks {
             free: 0,
             untaken: r.untaken + 1,
         },
     }
 }
 
-// The runs over the n slots from lo on.
-fn warm_up(s: State, memory: &[u8], lo: u32, n: u32) -> Runs
+// The streaks over the n slots from lo on.
+fn warm_up(s: State, memory: &[u8], lo: u32, n: u32) -> Streaks
     requires { ⌜ lo + n < 4294967295 ⌝ }
-    ensures { λ v. ⌜ v ≡ runs (statesOf (read (channel s (now (memory .entry))))) lo n ⌝ }
+    ensures { λ v. ⌜ v ≡ streaks (statesOf (tableOf (channel s (now (memory .entry))))) lo n ⌝ }
 {
-    let mut r = Runs {
+    let mut r = Streaks {
         free: 0,
         untaken: 0,
     };
@@ -128,8 +124,8 @@ fn warm_up(s: State, memory: &[u8], lo: u32, n: u32) -> Runs
 // Puts a start at place n, if it fits and n is below most; the next place.
 fn push(list: &mut [u32], n: usize, most: usize, start: u32, fits: bool) -> usize
     requires { ⌜ most ≤ length (now list) ⌝ }
-    ensures place { λ r. ⌜ r ≡ next fits n most ⌝ }
-    ensures list { λ _. ⌜ now (list .exit) ≡ put fits n most start (now (list .entry)) ⌝ }
+    ensures place { λ r. ⌜ r ≡ pushedNext fits n most ⌝ }
+    ensures list { λ _. ⌜ now (list .exit) ≡ pushed fits n most start (now (list .entry)) ⌝ }
 {
     if fits & (n < most) {
         list[n] = start;
@@ -158,8 +154,8 @@ fn append(list: &mut [u32], n: usize, most: usize, later: &[u32], kept: usize) -
 fn scan(s: State, memory: &[u8], q: Query, list: &mut [u32], later: &mut [u32]) -> usize
     requires { ⌜ WellAsked q (length (now list)) × (q .wanted ≤ length (now later)) ⌝ }
     requires { ⌜ (now list ≡ holdsOnly (length (now list)) []) × (now later ≡ holdsOnly (length (now later)) []) ⌝ }
-    ensures number { λ r. ⌜ r ≡ length (listed (statesOf (read (channel s (now (memory .entry))))) q) ⌝ }
-    ensures list { λ _. ⌜ now (list .exit) ≡ holdsOnly (length (now (list .entry))) (listed (statesOf (read (channel s (now (memory .entry))))) q) ⌝ }
+    ensures number { λ r. ⌜ r ≡ length (listed (statesOf (tableOf (channel s (now (memory .entry))))) q) ⌝ }
+    ensures list { λ _. ⌜ now (list .exit) ≡ holdsOnly (length (now (list .entry))) (listed (statesOf (tableOf (channel s (now (memory .entry))))) q) ⌝ }
 {
     let most = q.wanted as usize;
     let length = q.length;

@@ -10,16 +10,16 @@ use Rattle.octets.specs.Lists.{every}
 use Rattle.octets.specs.Refusals.{within}
 use Rattle.octets.specs.Octets.{zeros}
 use Rattle.octets.proofs.Refusals.{within-true}
-use Rattle.codec.specs.Parameters as Parameters
-use Rattle.record.specs.Record.{capacity, whole, rest, view}
-use Rattle.record.proofs.Views.{length-view}
+use Rattle.codec.specs.Parameters.{m1Row, fits}
+use Rattle.record.specs.Record.{capacity, whole, rest, allRecords}
+use Rattle.record.proofs.Images.{length-allRecords}
 use Rattle.sound.specs.Sound.{Channel, records, numbersFit, good, sound}
 
 -- what holds of a sound table
-pub record Held (m : Channel) : Type 0 where
+pub record SoundParts (m : Channel) : Type 0 where
   pub capacity-fits : within 1 2048 (capacity (m .memory)) ≡ true
   pub capacity-most : capacity (m .memory) ≤ 2048
-  pub m1-fits : Parameters.fits 1 (m .m1) ≡ true
+  pub m1-fits : fits m1Row (m .m1) ≡ true
   pub now-most : m .now ≤ 1_000_000_000
   pub room : m .count ≤ capacity (m .memory)
   pub counted : length (records m) ≡ m .count
@@ -30,11 +30,11 @@ pub record Held (m : Channel) : Type 0 where
 -- there are as many records as the count says
 count-records : (m : Channel) → m .count ≤ capacity (m .memory) → length (records m) ≡ m .count
 unfolding records
-count-records m h = length-take-le (m .count) (view (m .memory)) (rw length-view h)
+count-records m h = length-take-le (m .count) (allRecords (m .memory)) (rw length-allRecords h)
 
 -- the size and the numbers beside the records, part by part
 numbers-fit : (m : Channel) → numbersFit m ≡ true
-    → (whole (m .memory) ≡ true) × (within 1 2048 (capacity (m .memory)) ≡ true) × (Parameters.fits 1 (m .m1) ≡ true)
+    → (whole (m .memory) ≡ true) × (within 1 2048 (capacity (m .memory)) ≡ true) × (fits m1Row (m .m1) ≡ true)
     × (m .now ≤ 1_000_000_000) × (m .count ≤ capacity (m .memory))
 unfolding numbersFit
 numbers-fit m h =
@@ -48,15 +48,15 @@ numbers-fit m h =
 
 -- no M1 that fits is above 15,360
 pub m1-most : (m : Channel) → numbersFit m ≡ true → m .m1 ≤ 15360
-unfolding Parameters.fits
+unfolding fits
 m1-most m h =
     let p = and-eq-true-iff (within 60 15360 (m .m1)) (eqb ((m .m1 - 60) % 60) 0) .0 (numbers-fit m h .2) in
     within-true 60 15360 (m .m1) (p .0) .1
 
 -- a table that is sound has all of it
-pub held : (m : Channel) → sound m ≡ true → Held m
+pub sound-parts : (m : Channel) → sound m ≡ true → SoundParts m
 unfolding sound
-held m h =
+sound-parts m h =
     let b = m .memory in
     let s = and-eq-true-iff (numbersFit m && every (good (m .m1) (m .now)) (records m)) (zeros (rest (m .count) b)) .0 h in
     let g = and-eq-true-iff (numbersFit m) (every (good (m .m1) (m .now)) (records m)) .0 (s .0) in

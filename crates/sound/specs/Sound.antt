@@ -7,8 +7,8 @@ use lib.ListN.{take}
 use Rattle.octets.specs.Lists.{every}
 use Rattle.octets.specs.Refusals.{within}
 use Rattle.octets.specs.Octets.{zeros}
-use Rattle.codec.specs.Parameters as Parameters
-use Rattle.record.specs.Record.{capacity, whole, rest, view}
+use Rattle.codec.specs.Parameters.{m1Row, fits}
+use Rattle.record.specs.Record.{capacity, whole, rest, allRecords}
 use Rattle.record.specs.declared.Rec.{Rec}
 use Rattle.series.specs.Series.{lastSlot}
 
@@ -21,7 +21,7 @@ pub record Channel : Type 0 where
 
 -- the first count records
 unfoldable pub records : Channel → List Rec
-records m = take (m .count) (view (m .memory))
+records m = take (m .count) (allRecords (m .memory))
 
 -- ---- a good record
 
@@ -53,7 +53,7 @@ sizeFits b = whole b && within 1 2048 (capacity b)
 unfoldable pub numbersFit : Channel → Bool
 numbersFit m =
     sizeFits (m .memory)
-    && Parameters.fits 1 (m .m1)
+    && fits m1Row (m .m1)
     && leb (m .now) 1_000_000_000
     && leb (m .count) (capacity (m .memory))
 

@@ -6,8 +6,8 @@ ghost use Prim.Native.Nat.{_*_, _/_, _≤_};
 ghost use lib.ListN.{take};
 ghost use Rattle.octets.specs.Lists.{every};
 ghost use Rattle.octets.specs.Refusals.{within};
-ghost use Rattle.codec.specs.Parameters as Parameters;
-ghost use Rattle.record.specs.Record.{view};
+ghost use Rattle.codec.specs.Parameters.{m1Row, fits};
+ghost use Rattle.record.specs.Record.{allRecords};
 ghost use Rattle.series.specs.Series.{lastSlot};
 ghost use Rattle.sound.specs.Sound.{sizeFits, numbersFit, inRange, good, sound};
 ghost use Rattle.sound.specs.Steps.{areReciprocals};
@@ -41,7 +41,7 @@ fn is_good(r: Rec, m1: u32, time: u32, reciprocals: &[u32; 61]) -> bool
 // Whether all of the first n records are good.
 fn all_good(memory: &[u8], n: usize, m1: u32, time: u32) -> bool
     requires { ⌜ m1 ≤ 15360 ⌝ }
-    ensures { λ b. ⌜ b ≡ every (good m1 time) (take n (view (now (memory .entry)))) ⌝ }
+    ensures { λ b. ⌜ b ≡ every (good m1 time) (take n (allRecords (now (memory .entry)))) ⌝ }
 {
     let reciprocals = RECIPROCALS;
     let held = record::held_count(memory, n);
@@ -57,7 +57,7 @@ fn all_good(memory: &[u8], n: usize, m1: u32, time: u32) -> bool
 
 // Whether M1 fits its row.
 pub fn m1_fits(m1: u32) -> bool
-    ensures { λ b. ⌜ b ≡ Parameters.fits 1 m1 ⌝ }
+    ensures { λ b. ⌜ b ≡ fits m1Row m1 ⌝ }
 {
     codec::parameter(1, m1) == 0
 }

@@ -14,28 +14,28 @@ use Rattle.octets.proofs.Refusals.{firstOf-append, firstOf-stop, firstOf-zero, 
 use Rattle.record.specs.Record.{capacity, packed}
 use Rattle.record.specs.declared.Rec.{Rec}
 use Rattle.sound.specs.Sound.{Channel, records, sound}
-use Rattle.sound.proofs.Sound.{held}
+use Rattle.sound.proofs.Sound.{sound-parts}
 use Rattle.table.specs.declared.Request.{Request}
-use Rattle.table.specs.Table.{Call, clock, reserve, distance, wipe, look, asked, requestTests, placeTests, tests, changed, reported, isLook}
-use Rattle.table.specs.Memory.{stateOf, read, write, refusal, leaves, says, returned, Gives}
-use Rattle.table.specs.Steps.{refused, swept, added, addedMemory}
+use Rattle.table.specs.Table.{Call, clock, reserve, distance, wipe, look, newRecord, requestTests, heldTests, callTests, changed, reported, isLook}
+use Rattle.table.specs.Memory.{stateOf, tableOf, channelOf, callRefusal, leaves, says, returned, Gives}
+use Rattle.table.specs.Steps.{refusedAnswer, swept, added, addedMemory}
 
 -- ---- which refusal
 
 -- 11 where the table isn't sound
-pub refusal-unsound : (m : Channel) (c : Call) → sound m ≡ false → 11 ≡ refusal m c
-unfolding refusal
-refusal-unsound m c h = rw h
+pub callRefusal-unsound : (m : Channel) (c : Call) → sound m ≡ false → 11 ≡ callRefusal m c
+unfolding callRefusal
+callRefusal-unsound m c h = rw h
 
 -- else by the call's own tests
-pub refusal-sound : (m : Channel) (c : Call) → sound m ≡ true → refusal m c ≡ firstOf (tests (read m) c)
-unfolding refusal
-refusal-sound m c h = rw h
+pub callRefusal-sound : (m : Channel) (c : Call) → sound m ≡ true → callRefusal m c ≡ firstOf (callTests (tableOf m) c)
+unfolding callRefusal
+callRefusal-sound m c h = rw h
 
 -- ---- a refused call
 
 -- it leaves all as it was
-pub refused-leaves : (m : Channel) (c : Call) → (refusal m c ≡ 0 → ⊥) → m ≡ leaves m c
+pub refused-leaves : (m : Channel) (c : Call) → (callRefusal m c ≡ 0 → ⊥) → m ≡ leaves m c
 unfolding leaves
 refused-leaves m (clock slot) h = answer-refused _ (λ _. m) refl h
 refused-leaves m (reserve q) h = answer-refused _ (λ _. m) refl h
@@ -44,56 +44,56 @@ refused-leaves m (wipe s) h = answer-refused _ (λ _. m) refl h
 refused-leaves m (look f) h = refl
 
 -- its number, and nothing changed
-pub refused-gives : (m : Channel) (c : Call) (n : ℕ) → n ≡ refusal m c → (n ≡ 0 → ⊥) → Gives m c (refused n (stateOf m)) (m .memory)
+pub refused-gives : (m : Channel) (c : Call) (n : ℕ) → n ≡ callRefusal m c → (n ≡ 0 → ⊥) → Gives m c (refusedAnswer n (stateOf m)) (m .memory)
 unfolding returned says
 refused-gives m c n e h =
     let l = refused-leaves m c (λ z. h (e ∙ z)) in
     record {
-      result = rw (← l, ← e) (ap (λ k. record { refusal = n; number = k; state = stateOf m }) (answer-refused (reported (read m) c) (λ _. 0) {n = n} refl h));
+      result = rw (← l, ← e) (ap (λ k. record { refusal = n; number = k; state = stateOf m }) (answer-refused (reported (tableOf m) c) (λ _. 0) {n = n} refl h));
       octets = ap (λ (u : Channel). u .memory) l;
     }
 
 -- so where the table isn't sound
-pub unsound-gives : (m : Channel) (c : Call) → sound m ≡ false → Gives m c (refused 11 (stateOf m)) (m .memory)
-unsound-gives m c h = refused-gives m c 11 (refusal-unsound m c h) (omega arith)
+pub unsound-gives : (m : Channel) (c : Call) → sound m ≡ false → Gives m c (refusedAnswer 11 (stateOf m)) (m .memory)
+unsound-gives m c h = refused-gives m c 11 (callRefusal-unsound m c h) (omega arith)
 
 -- and where one of the call's own tests holds
-pub tested-gives : (m : Channel) (c : Call) → sound m ≡ true → (n : ℕ) → firstOf (tests (read m) c) ≡ n → (n ≡ 0 → ⊥)
-    → Gives m c (refused n (stateOf m)) (m .memory)
-tested-gives m c h n e z = refused-gives m c n (sym (refusal-sound m c h ∙ e)) z
+pub tested-gives : (m : Channel) (c : Call) → sound m ≡ true → (n : ℕ) → firstOf (callTests (tableOf m) c) ≡ n → (n ≡ 0 → ⊥)
+    → Gives m c (refusedAnswer n (stateOf m)) (m .memory)
+tested-gives m c h n e z = refused-gives m c n (sym (callRefusal-sound m c h ∙ e)) z
 
 -- ---- an accepted call
 
 -- it leaves the changed table, unless it only looks
-accepted-leaves : (m : Channel) (c : Call) → 0 ≡ refusal m c → isLook c ≡ false → write (changed (read m) c) ≡ leaves m c
+accepted-leaves : (m : Channel) (c : Call) → 0 ≡ callRefusal m c → isLook c ≡ false → channelOf (changed (tableOf m) c) ≡ leaves m c
 unfolding leaves
-accepted-leaves m (clock slot) h n = answer-accepted (write (changed (read m) (clock slot))) (λ _. m) h
-accepted-leaves m (reserve q) h n = answer-accepted (write (changed (read m) (reserve q))) (λ _. m) h
-accepted-leaves m (distance s d limit) h n = answer-accepted (write (changed (read m) (distance s d limit))) (λ _. m) h
-accepted-leaves m (wipe s) h n = answer-accepted (write (changed (read m) (wipe s))) (λ _. m) h
+accepted-leaves m (clock slot) h n = answer-accepted (channelOf (changed (tableOf m) (clock slot))) (λ _. m) h
+accepted-leaves m (reserve q) h n = answer-accepted (channelOf (changed (tableOf m) (reserve q))) (λ _. m) h
+accepted-leaves m (distance s d limit) h n = answer-accepted (channelOf (changed (tableOf m) (distance s d limit))) (λ _. m) h
+accepted-leaves m (wipe s) h n = answer-accepted (channelOf (changed (tableOf m) (wipe s))) (λ _. m) h
 accepted-leaves m (look f) h n = absurd (true≢false n)
 
 -- what it reports, and the changed table
-pub accepted-gives : (m : Channel) (c : Call) → 0 ≡ refusal m c → isLook c ≡ false
-    → Gives m c (record { refusal = 0; number = reported (read m) c; state = stateOf (write (changed (read m) c)) }) (write (changed (read m) c) .memory)
+pub accepted-gives : (m : Channel) (c : Call) → 0 ≡ callRefusal m c → isLook c ≡ false
+    → Gives m c (record { refusal = 0; number = reported (tableOf m) c; state = stateOf (channelOf (changed (tableOf m) c)) }) (channelOf (changed (tableOf m) c) .memory)
 unfolding returned says
 accepted-gives m c h n =
     let l = accepted-leaves m c h n in
     record {
-      result = rw (← h, l) (ap (λ k. record { refusal = 0; number = k; state = stateOf (leaves m c) }) (answer-accepted (reported (read m) c) (λ _. 0) {m = 0} refl));
+      result = rw (← h, l) (ap (λ k. record { refusal = 0; number = k; state = stateOf (leaves m c) }) (answer-accepted (reported (tableOf m) c) (λ _. 0) {m = 0} refl));
       octets = ap (λ (u : Channel). u .memory) l;
     }
 
 -- one that keeps the records that pass p, at time t, and reports those that pass q, which are the others
-pub sweep-gives : (m : Channel) (c : Call) → sound m ≡ true → firstOf (tests (read m) c) ≡ 0 → isLook c ≡ false
+pub sweep-gives : (m : Channel) (c : Call) → sound m ≡ true → firstOf (callTests (tableOf m) c) ≡ 0 → isLook c ≡ false
     → (t : ℕ) (p q : Rec → Bool) → ((r : Rec) → q r ≡ not (p r))
-    → changed (read m) c ≡ record { m1 = m .m1; now = t; capacity = capacity (m .memory); records = keep p (records m) }
-    → reported (read m) c ≡ length (keep q (records m))
+    → changed (tableOf m) c ≡ record { m1 = m .m1; now = t; capacity = capacity (m .memory); records = keep p (records m) }
+    → reported (tableOf m) c ≡ length (keep q (records m))
     → Gives m c (swept m t p) (packed (capacity (m .memory)) (keep p (records m)))
-unfolding write
+unfolding channelOf
 sweep-gives m c h z n t p q f e r =
-    let g = accepted-gives m c (sym (refusal-sound m c h ∙ z)) n in
-    let d : m .count - length (keep p (records m)) ≡ reported (read m) c = rw r (omega (arith, held m h .counted, length-keep-not p q f (records m))) in
+    let g = accepted-gives m c (sym (callRefusal-sound m c h ∙ z)) n in
+    let d : m .count - length (keep p (records m)) ≡ reported (tableOf m) c = rw r (omega (arith, sound-parts m h .counted, length-keep-not p q f (records m))) in
     record { result = rw (d, ← g .result, e); octets = rw (← g .octets, e) }
 
 -- ---- a reserve
@@ -120,25 +120,25 @@ request-passed q z =
 module _ (m : Channel) (q : Request) where
   -- the record that it asks for
   abbrev x : Rec
-  x = asked (m .now) q
+  x = newRecord (m .now) q
 
   -- refused for its numbers
-  pub request-refused : sound m ≡ true → (firstOf (requestTests q) ≡ 0 → ⊥) → Gives m (reserve q) (refused (firstOf (requestTests q)) (stateOf m)) (m .memory)
-  unfolding read
-  request-refused h z = tested-gives m (reserve q) h _ (firstOf-stop (requestTests q) (placeTests (read m) x) z) z
+  pub request-refused : sound m ≡ true → (firstOf (requestTests q) ≡ 0 → ⊥) → Gives m (reserve q) (refusedAnswer (firstOf (requestTests q)) (stateOf m)) (m .memory)
+  unfolding tableOf
+  request-refused h z = tested-gives m (reserve q) h _ (firstOf-stop (requestTests q) (heldTests (tableOf m) x) z) z
 
   -- not refused for them, it goes by the place for its record
   pub request-added : sound m ≡ true → firstOf (requestTests q) ≡ 0 → Gives m (reserve q) (added m x) (addedMemory m x)
-  unfolding added addedMemory write read
-  request-added h z = go (firstOf (placeTests (read m) x)) refl
+  unfolding added addedMemory channelOf tableOf
+  request-added h z = go (firstOf (heldTests (tableOf m) x)) refl
     where
-      e : refusal m (reserve q) ≡ firstOf (placeTests (read m) x)
-      e = refusal-sound m (reserve q) h ∙ firstOf-append (requestTests q) (placeTests (read m) x) refl z
+      e : callRefusal m (reserve q) ≡ firstOf (heldTests (tableOf m) x)
+      e = callRefusal-sound m (reserve q) h ∙ firstOf-append (requestTests q) (heldTests (tableOf m) x) refl z
 
       l : length (records m ++ (x ∷ [])) ≡ m .count + 1
-      l = length-append (records m) (x ∷ []) ∙ ap (λ n. n + 1) (held m h .counted)
+      l = length-append (records m) (x ∷ []) ∙ ap (λ n. n + 1) (sound-parts m h .counted)
 
-      go : (n : ℕ) → firstOf (placeTests (read m) x) ≡ n → Gives m (reserve q) (added m x) (addedMemory m x)
+      go : (n : ℕ) → firstOf (heldTests (tableOf m) x) ≡ n → Gives m (reserve q) (added m x) (addedMemory m x)
       go zero f =
           let g = accepted-gives m (reserve q) (sym (e ∙ f)) refl in
           record { result = sym (answer-accepted _ _ (sym f)) ∙ rw (← l) (g .result); octets = sym (answer-accepted _ _ (sym f)) ∙ g .octets }

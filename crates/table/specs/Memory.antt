@@ -5,12 +5,12 @@ use mathlib.Core.Bool.{not}
 use mathlib.Core.List.{List, [], _∷_}
 use lib.ListN.{length as len, replicate}
 use Rattle.octets.specs.Refusals.{firstOf, answer}
-use Rattle.codec.specs.Parameters as Parameters
+use Rattle.codec.specs.Parameters.{m1Row, fits}
 use Rattle.record.specs.Record.{capacity, packed}
 use Rattle.sound.specs.Sound.{Channel, records, sizeFits, sound}
 use Rattle.table.specs.declared.State.{State}
 use Rattle.table.specs.declared.Answer.{Answer}
-use Rattle.table.specs.Table.{Table, Said, Call, clock, reserve, distance, wipe, look, tests, changed, reported}
+use Rattle.table.specs.Table.{Table, Said, Call, clock, reserve, distance, wipe, look, callTests, changed, reported}
 
 -- the channel of a state and the octets lent with it
 abbrev pub channel : State → List ℕ → Channel
@@ -23,22 +23,22 @@ stateOf m = record { m1 = m .m1; now = m .now; count = m .count }
 -- ---- records and octets
 
 -- the table that the octets hold
-unfoldable pub read : Channel → Table
-read m = record { m1 = m .m1; now = m .now; capacity = capacity (m .memory); records = records m }
+unfoldable pub tableOf : Channel → Table
+tableOf m = record { m1 = m .m1; now = m .now; capacity = capacity (m .memory); records = records m }
 
 -- the octets and the state of a table
-unfoldable pub write : Table → Channel
-write t = record { m1 = t .m1; now = t .now; count = len (t .records); memory = packed (t .capacity) (t .records) }
+unfoldable pub channelOf : Table → Channel
+channelOf t = record { m1 = t .m1; now = t .now; count = len (t .records); memory = packed (t .capacity) (t .records) }
 
 -- ---- the calls
 
 -- the first refusal that applies, 0 if none does
-unfoldable pub refusal : Channel → Call → ℕ
-refusal m c = firstOf ((11, not (sound m)) ∷ tests (read m) c)
+unfoldable pub callRefusal : Channel → Call → ℕ
+callRefusal m c = firstOf ((11, not (sound m)) ∷ callTests (tableOf m) c)
 
 -- the octets and the state that a call leaves: the changed table where it is accepted, all as it was where it is refused
 abbrev pub acts : Channel → Call → Channel
-acts m c = answer (refusal m c) (write (changed (read m) c)) (λ _. m)
+acts m c = answer (callRefusal m c) (channelOf (changed (tableOf m) c)) (λ _. m)
 
 -- a slot state and a search leave all as it was
 unfoldable pub leaves : Channel → Call → Channel
@@ -50,7 +50,7 @@ leaves m (look f) = m
 
 -- the answer: the refusal, and the number reported, 0 where the call is refused
 unfoldable pub says : Channel → Call → Said
-says m c = record { refusal = refusal m c; number = answer (refusal m c) (reported (read m) c) (λ _. 0) }
+says m c = record { refusal = callRefusal m c; number = answer (callRefusal m c) (reported (tableOf m) c) (λ _. 0) }
 
 -- what the functions return: the answer, and the state handed back
 unfoldable pub returned : Channel → Call → Answer
@@ -65,7 +65,7 @@ pub record Gives (m : Channel) (c : Call) (r : Answer) (b : List ℕ) : Type 0 w
 
 -- what an opening is refused for: 10, 1
 unfoldable pub openRefusal : ℕ → List ℕ → ℕ
-openRefusal m1 b = firstOf ((10, not (Parameters.fits 1 m1)) ∷ (1, not (sizeFits b)) ∷ [])
+openRefusal m1 b = firstOf ((10, not (fits m1Row m1)) ∷ (1, not (sizeFits b)) ∷ [])
 
 -- all octets 0, now 0, count 0
 abbrev pub opened : ℕ → List ℕ → Channel

@@ -12,13 +12,13 @@ use Rattle.sound.specs.Sound.{Channel, records, lasts}
 use Rattle.table.specs.declared.Stay.{Stay}
 use Rattle.table.specs.declared.State.{State}
 use Rattle.table.specs.declared.Answer.{Answer}
-use Rattle.table.specs.Table.{of, placeTests}
-use Rattle.table.specs.Memory.{stateOf, read}
-use Rattle.table.specs.Slots.{heldFar}
+use Rattle.table.specs.Table.{ownedBy, heldTests}
+use Rattle.table.specs.Memory.{stateOf, tableOf}
+use Rattle.table.specs.Slots.{recordFar}
 
 -- a record of any station, or of another one only, that is not over at a slot
 unfoldable pub stays : Stay → Rec → Bool
-stays rule r = (rule .any || not (of (rule .station) r)) && lasts (rule .m1) (rule .slot) r
+stays rule r = (rule .any || not (ownedBy (rule .station) r)) && lasts (rule .m1) (rule .slot) r
 
 -- a where record i passes, b where not
 abbrev pub sieved : (Rec → Bool) → List Rec → ℕ → ℕ → ℕ → ℕ
@@ -29,8 +29,8 @@ unfoldable pub mapped : (Rec → Rec) → ℕ → List Rec → List Rec
 mapped f i vs = map f (take i vs) ++ drop i vs
 
 -- the answer of a refused call
-abbrev pub refused : ℕ → State → Answer
-refused n s = record { refusal = n; number = 0; state = s }
+abbrev pub refusedAnswer : ℕ → State → Answer
+refusedAnswer n s = record { refusal = n; number = 0; state = s }
 
 -- the answer of a sweep to time t that keeps the records that pass
 abbrev pub swept : Channel → ℕ → (Rec → Bool) → Answer
@@ -44,12 +44,12 @@ swept m t p =
 -- the answer where a record is to be added
 unfoldable pub added : Channel → Rec → Answer
 added m x =
-    answer (firstOf (placeTests (read m) x)) (record { refusal = 0; number = 0; state = record { m1 = m .m1; now = m .now; count = m .count + 1 } }) (λ n. refused n (stateOf m))
+    answer (firstOf (heldTests (tableOf m) x)) (record { refusal = 0; number = 0; state = record { m1 = m .m1; now = m .now; count = m .count + 1 } }) (λ n. refusedAnswer n (stateOf m))
 
 -- and the memory then
 unfoldable pub addedMemory : Channel → Rec → List ℕ
-addedMemory m x = answer (firstOf (placeTests (read m) x)) (packed (capacity (m .memory)) (records m ++ (x ∷ []))) (λ _. m .memory)
+addedMemory m x = answer (firstOf (heldTests (tableOf m) x)) (packed (capacity (m .memory)) (records m ++ (x ∷ []))) (λ _. m .memory)
 
 -- a record that reserves a slot, but for a far one where `any` says that far ones do already
 unfoldable pub holdsMore : ℕ → ℕ → Bool → Rec → Bool
-holdsMore m1 slot any r = not (any && heldFar r) && reserves m1 r slot
+holdsMore m1 slot any r = not (any && recordFar r) && reserves m1 r slot

@@ -44,19 +44,19 @@ isLook (look f) = true
 -- ---- what the calls do with records
 
 -- far, as a record holds it
-abbrev pub bit : Bool → ℕ
-bit far = cond far 1 0
+abbrev pub farOctet : Bool → ℕ
+farOctet far = cond far 1 0
 
 -- the record that a reserve adds: first = now + bs
-abbrev pub asked : ℕ → Request → Rec
-asked now q =
+abbrev pub newRecord : ℕ → Request → Rec
+newRecord now q =
     record {
       station = q .station;
       first = now + q .bs;
       rate = q .rate;
       superframes = q .superframes;
       length = q .length;
-      far = bit (isFar (q .distance) (q .limit));
+      far = farOctet (isFar (q .distance) (q .limit));
     }
 
 -- same station, first, rate, superframes, length
@@ -69,8 +69,8 @@ same a b =
     && eqb (a .length) (b .length)
 
 -- the station's own
-abbrev pub of : ℕ → Rec → Bool
-of s r = eqb (r .station) s
+abbrev pub ownedBy : ℕ → Rec → Bool
+ownedBy s r = eqb (r .station) s
 
 -- far rewritten, if the record is the station's
 abbrev pub setFar : ℕ → ℕ → Rec → Rec
@@ -81,7 +81,7 @@ setFar s far r =
       rate = r .rate;
       superframes = r .superframes;
       length = r .length;
-      far = cond (of s r) far (r .far);
+      far = cond (ownedBy s r) far (r .far);
     }
 
 -- ---- the calls on a sound table; 11 comes before all of these refusals
@@ -102,16 +102,16 @@ requestTests q =
     ∷ []
 
 -- and by the records held: 16 already held, 17 count equals capacity
-abbrev pub placeTests : Table → Rec → List (ℕ × Bool)
-placeTests t r = (16, has (same r) (t .records)) ∷ (17, eqb (len (t .records)) (t .capacity)) ∷ []
+abbrev pub heldTests : Table → Rec → List (ℕ × Bool)
+heldTests t r = (16, has (same r) (t .records)) ∷ (17, eqb (len (t .records)) (t .capacity)) ∷ []
 
 -- what a call is refused for, in order
-abbrev pub tests : Table → Call → List (ℕ × Bool)
-tests t (clock slot) = timeTests t slot
-tests t (reserve q) = requestTests q ++ placeTests t (asked (t .now) q)
-tests t (distance s d limit) = (8, leb (2 ^ 27) s) ∷ (18, not (limitFits limit)) ∷ []
-tests t (wipe s) = (8, leb (2 ^ 27) s) ∷ []
-tests t (look f) = (f t .refusal, not (eqb (f t .refusal) 0)) ∷ []
+abbrev pub callTests : Table → Call → List (ℕ × Bool)
+callTests t (clock slot) = timeTests t slot
+callTests t (reserve q) = requestTests q ++ heldTests t (newRecord (t .now) q)
+callTests t (distance s d limit) = (8, leb (2 ^ 27) s) ∷ (18, not (limitFits limit)) ∷ []
+callTests t (wipe s) = (8, leb (2 ^ 27) s) ∷ []
+callTests t (look f) = (f t .refusal, not (eqb (f t .refusal) 0)) ∷ []
 
 -- the table with other records
 abbrev pub withRecords : Table → List Rec → Table
@@ -121,15 +121,15 @@ withRecords t rs = record { m1 = t .m1; now = t .now; capacity = t .capacity; re
 abbrev pub changed : Table → Call → Table
 changed t (clock slot) =
     record { m1 = t .m1; now = slot; capacity = t .capacity; records = keep (lasts (t .m1) slot) (t .records) }
-changed t (reserve q) = withRecords t (t .records ++ (asked (t .now) q ∷ []))
-changed t (distance s d limit) = withRecords t (map (setFar s (bit (isFar d limit))) (t .records))
-changed t (wipe s) = withRecords t (keep (λ r. not (of s r)) (t .records))
+changed t (reserve q) = withRecords t (t .records ++ (newRecord (t .now) q ∷ []))
+changed t (distance s d limit) = withRecords t (map (setFar s (farOctet (isFar d limit))) (t .records))
+changed t (wipe s) = withRecords t (keep (λ r. not (ownedBy s r)) (t .records))
 changed t (look f) = t
 
 -- the number that an accepted call reports: dropped, 0, held, removed
 abbrev pub reported : Table → Call → ℕ
 reported t (clock slot) = len (keep (λ r. not (lasts (t .m1) slot r)) (t .records))
 reported t (reserve q) = 0
-reported t (distance s d limit) = len (keep (of s) (t .records))
-reported t (wipe s) = len (keep (of s) (t .records))
+reported t (distance s d limit) = len (keep (ownedBy s) (t .records))
+reported t (wipe s) = len (keep (ownedBy s) (t .records))
 reported t (look f) = f t .number

@@ -8,12 +8,12 @@ ghost use lib.ListN.{length, getD, set, take};
 ghost use Rattle.octets.specs.Lists.{keep, has};
 ghost use Rattle.octets.specs.Refusals.{firstOf};
 ghost use Rattle.distance.specs.Distances as Distances;
-ghost use Rattle.record.specs.Record.{view, blank, capacity, packed};
+ghost use Rattle.record.specs.Record.{allRecords, blank, capacity, packed};
 ghost use Rattle.sound.specs.Sound.{records, sound};
-ghost use Rattle.table.specs.Table.{clock, reserve, distance, wipe, bit, same, of, setFar, requestTests};
+ghost use Rattle.table.specs.Table.{clock, reserve, distance, wipe, farOctet, same, ownedBy, setFar, requestTests};
 ghost use Rattle.table.specs.Memory.{channel, Gives, OpenGives};
 ghost use Rattle.table.specs.Slots.{slotState, slotAnswer};
-ghost use Rattle.table.specs.Steps.{stays, sieved, mapped, refused, swept, added, addedMemory, holdsMore};
+ghost use Rattle.table.specs.Steps.{stays, sieved, mapped, refusedAnswer, swept, added, addedMemory, holdsMore};
 
 // What stands beside the lent memory. It travels by value.
 pub struct State {
@@ -40,11 +40,16 @@ pub struct Request {
     pub limit: f64,
 }
 
-// A slot's state; refused, its number alone.
+// A slot's state.
 pub enum Slot {
     Free,
     Reusable,
     Taken,
+}
+
+// What a slot state gives: the state; refused, its number alone.
+pub enum SlotAnswer {
+    Is(Slot),
     Refused(u32),
 }
 
@@ -69,7 +74,7 @@ pub fn is_sound(s: State, memory: &[u8]) -> bool
 // ---- steps of the calls
 
 fn refuse(n: u32, s: State) -> Answer
-    ensures { λ r. ⌜ r ≡ refused n s ⌝ }
+    ensures { λ r. ⌜ r ≡ refusedAnswer n s ⌝ }
 {
     Answer {
         refusal: n,
@@ -88,8 +93,8 @@ fn does_stay(rule: Stay, r: Rec) -> bool
 
 // Writes record i over record k, unless they are the same: until the first record goes, nothing is moved.
 fn move_down(memory: &mut [u8], i: usize, k: usize, r: Rec)
-    requires { ⌜ (k ≤ i) × (r ≡ getD (view (now memory)) i blank) ⌝ }
-    ensures { λ _. ⌜ view (now (memory .exit)) ≡ set (view (now (memory .entry))) k r ⌝ }
+    requires { ⌜ (k ≤ i) × (r ≡ getD (allRecords (now memory)) i blank) ⌝ }
+    ensures { λ _. ⌜ allRecords (now (memory .exit)) ≡ set (allRecords (now (memory .entry))) k r ⌝ }
 {
     if k < i {
         record::store(memory, k, r);
@@ -99,8 +104,8 @@ fn move_down(memory: &mut [u8], i: usize, k: usize, r: Rec)
 // Moves record i down to place k, whether it stays or not: a branch by that would often be guessed wrong. The next k.
 fn sift(memory: &mut [u8], i: usize, k: usize, rule: Stay) -> usize
     requires { ⌜ (k ≤ i) × (i < capacity (now memory)) ⌝ }
-    ensures next { λ r. ⌜ r ≡ sieved (stays rule) (view (now (memory .entry))) i (k + 1) k ⌝ }
-    ensures left { λ _. ⌜ view (now (memory .exit)) ≡ set (view (now (memory .entry))) k (getD (view (now (memory .entry))) i blank) ⌝ }
+    ensures next { λ r. ⌜ r ≡ sieved (stays rule) (allRecords (now (memory .entry))) i (k + 1) k ⌝ }
+    ensures left { λ _. ⌜ allRecords (now (memory .exit)) ≡ set (allRecords (now (memory .entry))) k (getD (allRecords (now (memory .entry))) i blank) ⌝ }
 {
     let r = record::load(memory, i);
     move_down(memory, i, k, r);
@@ -112,8 +117,8 @@ fn sift(memory: &mut [u8], i: usize, k: usize, rule: Stay) -> usize
 
 // Moves those of the first n records that stay to the front, in order. How many they are.
 fn compact(memory: &mut [u8], n: usize, rule: Stay) -> usize
-    ensures kept { λ r. ⌜ r ≡ length (keep (stays rule) (take n (view (now (memory .entry))))) ⌝ }
-    ensures front { λ r. ⌜ take r (view (now (memory .exit))) ≡ keep (stays rule) (take n (view (now (memory .entry)))) ⌝ }
+    ensures kept { λ r. ⌜ r ≡ length (keep (stays rule) (take n (allRecords (now (memory .entry))))) ⌝ }
+    ensures front { λ r. ⌜ take r (allRecords (now (memory .exit))) ≡ keep (stays rule) (take n (allRecords (now (memory .entry)))) ⌝ }
 {
     let held = record::held_count(memory, n);
     let mut i = 0;
@@ -161,7 +166,7 @@ fn is_same(x: Rec, r: Rec) -> bool
 
 // Whether one of the first n records is the same reservation.
 fn has_same(memory: &[u8], n: usize, x: Rec) -> bool
-    ensures { λ b. ⌜ b ≡ has (same x) (take n (view (now (memory .entry)))) ⌝ }
+    ensures { λ b. ⌜ b ≡ has (same x) (take n (allRecords (now (memory .entry)))) ⌝ }
 {
     let held = record::held_count(memory, n);
     let mut i = 0;
@@ -230,7 +235,7 @@ fn judge_request(q: Request) -> u32
 }
 
 fn far_bit(d: Distance, limit: f64) -> u8
-    ensures { λ r. ⌜ r ≡ bit (Distances.isFar d limit) ⌝ }
+    ensures { λ r. ⌜ r ≡ farOctet (Distances.isFar d limit) ⌝ }
 {
     if distance::far(d, limit) {
         return 1;
@@ -241,8 +246,8 @@ fn far_bit(d: Distance, limit: f64) -> u8
 // Rewrites far in record i, where it is the station's. The next k.
 fn mark(memory: &mut [u8], i: usize, k: usize, station: u32, far: u8) -> usize
     requires { ⌜ (k ≤ i) × (i < capacity (now memory)) ⌝ }
-    ensures next { λ r. ⌜ r ≡ sieved (of station) (view (now (memory .entry))) i (k + 1) k ⌝ }
-    ensures left { λ _. ⌜ view (now (memory .exit)) ≡ set (view (now (memory .entry))) i (setFar station far (getD (view (now (memory .entry))) i blank)) ⌝ }
+    ensures next { λ r. ⌜ r ≡ sieved (ownedBy station) (allRecords (now (memory .entry))) i (k + 1) k ⌝ }
+    ensures left { λ _. ⌜ allRecords (now (memory .exit)) ≡ set (allRecords (now (memory .entry))) i (setFar station far (getD (allRecords (now (memory .entry))) i blank)) ⌝ }
 {
     let r = record::load(memory, i);
     if r.station == station {
@@ -266,8 +271,8 @@ fn mark(memory: &mut [u8], i: usize, k: usize, station: u32, far: u8) -> usize
 // The same for the first n records. How many are the station's.
 fn mark_all(memory: &mut [u8], n: usize, station: u32, far: u8) -> usize
     requires { ⌜ n ≤ capacity (now memory) ⌝ }
-    ensures number { λ r. ⌜ r ≡ length (keep (of station) (take n (view (now (memory .entry))))) ⌝ }
-    ensures left { λ _. ⌜ view (now (memory .exit)) ≡ mapped (setFar station far) n (view (now (memory .entry))) ⌝ }
+    ensures number { λ r. ⌜ r ≡ length (keep (ownedBy station) (take n (allRecords (now (memory .entry))))) ⌝ }
+    ensures left { λ _. ⌜ allRecords (now (memory .exit)) ≡ mapped (setFar station far) n (allRecords (now (memory .entry))) ⌝ }
 {
     let held = record::held_count(memory, n);
     let mut i = 0;
@@ -436,17 +441,18 @@ pub fn judge(s: State, memory: &[u8], slot: u32) -> Slot
 }
 
 // The slot state. Refused, in this order: 11, 12 for a slot behind now, 13 above the limit.
-pub fn slot_state(s: State, memory: &[u8], slot: u32) -> Slot
+pub fn slot_state(s: State, memory: &[u8], slot: u32) -> SlotAnswer
     ensures { λ r. ⌜ r ≡ slotAnswer (channel s (now (memory .entry))) slot ⌝ }
 {
     if is_sound(s, memory) {
         if slot < s.now {
-            return Slot::Refused(12);
+            return SlotAnswer::Refused(12);
         }
         if 1000000000 < slot {
-            return Slot::Refused(13);
+            return SlotAnswer::Refused(13);
         }
-        return judge(s, memory, slot);
+        let state = judge(s, memory, slot);
+        return SlotAnswer::Is(state);
     }
-    Slot::Refused(11)
+    SlotAnswer::Refused(11)
 }

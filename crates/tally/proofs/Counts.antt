@@ -11,7 +11,7 @@ use Rattle.octets.specs.Lists.{keep}
 use Rattle.octets.specs.Refusals.{answer}
 use Rattle.tally.specs.declared.Tally.{Tally}
 use Rattle.tally.specs.Calls.{oneMore, counted}
-use Rattle.tally.specs.Claims.{countedAll, accepted, TellsHowMany}
+use Rattle.tally.specs.Claims.{countedAll, isAccepted, TellsHowMany}
 
 -- a tally of so many accepted and so many refused calls
 abbrev told : ℕ → ℕ → Tally
@@ -23,17 +23,17 @@ one-more-min n = omega arith
 
 -- those of these that are refused
 abbrev refused : List ℕ → List ℕ
-refused ns = keep (λ n. not (accepted n)) ns
+refused ns = keep (λ n. not (isAccepted n)) ns
 
 -- each call of a row counts as what it is
-counted-all : (ns : List ℕ) (a r : ℕ) → countedAll (told a r) ns ≡ told (a + length (keep accepted ns)) (r + length (refused ns))
+counted-all : (ns : List ℕ) (a r : ℕ) → countedAll (told a r) ns ≡ told (a + length (keep isAccepted ns)) (r + length (refused ns))
 unfolding counted answer
 counted-all [] a r = rw (add-zero a, add-zero r)
 counted-all (n ∷ ns) a r = go (eqb n 0) (counted-all ns)
   where
-    go : (b : Bool) → ((x y : ℕ) → countedAll (told x y) ns ≡ told (x + length (keep accepted ns)) (y + length (refused ns)))
+    go : (b : Bool) → ((x y : ℕ) → countedAll (told x y) ns ≡ told (x + length (keep isAccepted ns)) (y + length (refused ns)))
         → countedAll (cond b (record { accepted = oneMore (min a 4_294_967_295); refused = told a r .refused }) (record { accepted = told a r .accepted; refused = oneMore (min r 4_294_967_295) })) ns
-        ≡ told (a + length (cond b (n ∷ keep accepted ns) (keep accepted ns))) (r + length (cond (not b) (n ∷ refused ns) (refused ns)))
+        ≡ told (a + length (cond b (n ∷ keep isAccepted ns) (keep isAccepted ns))) (r + length (cond (not b) (n ∷ refused ns) (refused ns)))
     go true rest = rw (one-more-min a, add-suc a) (rest (suc a) r ∙ rw (suc-add a))
     go false rest = rw (one-more-min r, add-suc r) (rest a (suc r) ∙ rw (suc-add r))
 
@@ -43,4 +43,4 @@ counted-all-told ns =
     let none : min 0 4_294_967_295 ≡ 0 = omega arith in
     ap (λ (n : ℕ). countedAll (record { accepted = n; refused = n }) ns) (sym none)
     ∙ counted-all ns 0 0
-    ∙ rw (zero-add (length (keep accepted ns)), zero-add (length (refused ns)))
+    ∙ rw (zero-add (length (keep isAccepted ns)), zero-add (length (refused ns)))

@@ -15,15 +15,15 @@ countedAll t [] = t
 countedAll t (n ∷ ns) = countedAll (counted t n) ns
 
 -- 0 is accepted
-abbrev pub accepted : ℕ → Bool
-accepted n = eqb n 0
+abbrev pub isAccepted : ℕ → Bool
+isAccepted n = eqb n 0
 
 -- begun at 0, it tells how many calls were accepted and how many refused, as far as a count goes
 abbrev pub TellsHowMany : Type 0
 TellsHowMany =
     (ns : List ℕ)
     → countedAll (record { accepted = 0; refused = 0 }) ns
-    ≡ record { accepted = min (length (keep accepted ns)) 4_294_967_295; refused = min (length (keep (λ n. not (accepted n)) ns)) 4_294_967_295 }
+    ≡ record { accepted = min (length (keep isAccepted ns)) 4_294_967_295; refused = min (length (keep (λ n. not (isAccepted n)) ns)) 4_294_967_295 }
 
 pub record Claims : Type 0 where
   pub tells-how-many : TellsHowMany

@@ -15,56 +15,56 @@ use Rattle.sound.specs.Sound.{Channel, sound, inRange}
 use Rattle.sound.proofs.Ranges.{ranges}
 use Rattle.table.specs.declared.Answer.{Answer}
 use Rattle.table.specs.Table.{Table, Said, Call, clock, reserve, distance, wipe, look, changed, reported, withRecords}
-use Rattle.table.specs.Memory.{channel, read, write, refusal, acts, leaves, says, returned, openRefusal, opened, openLeaves, openReturned, OpenGives}
-use Rattle.table.proofs.Calls.{refusal-sound, refused-leaves}
+use Rattle.table.specs.Memory.{channel, tableOf, channelOf, callRefusal, acts, leaves, says, returned, openRefusal, opened, openLeaves, openReturned, OpenGives}
+use Rattle.table.proofs.Calls.{callRefusal-sound, refused-leaves}
 use Rattle.trace.specs.Machine.{Machine, runs, Settles, Refines}
-use Rattle.trace.specs.Sequences.{onOctets, Called, is, without, WithoutTrace, MadeWithoutTrace}
-use Rattle.trace.specs.Records.{Sound, after, onRecords}
+use Rattle.trace.specs.Sequences.{onOctets, Called, only, without, WithoutTrace, MadeWithoutTrace}
+use Rattle.trace.specs.Records.{Sound, leftOn, onRecords}
 use Rattle.trace.specs.Claims.{WipedWithoutTrace, RealCalls, SoundOpened, SoundKept, NeverUnsound, RefusedChangesNothing, OneResult}
-use Rattle.trace.proofs.Machine.{runs-good, runs-refined, logs-refined, made-runs, runs-untraced, logs-untraced}
+use Rattle.trace.proofs.Machine.{runs-good, runs-refined, transcript-refined, made-runs, runs-untraced, transcript-untraced}
 use Rattle.trace.proofs.Kept.{all-in-range, sound-changed}
-use Rattle.trace.proofs.Written.{sound-write, sound-read, refined, empty, sound-empty, opened-write}
+use Rattle.trace.proofs.Written.{sound-channelOf, sound-tableOf, refined, empty, sound-empty, opened-channelOf}
 use Rattle.trace.proofs.Simulation.{stays, left, Alike, untraced}
 
 -- ---- the wipe at the end
 
 -- a sound table has no record of a station of 2 ^ 27 or more, whose wipe is refused
-none-beyond : (A : ℕ) → leb (2 ^ 27) A ≡ true → (r : Rec) → inRange r ≡ true → stays (is A) r ≡ true
+none-beyond : (A : ℕ) → leb (2 ^ 27) A ≡ true → (r : Rec) → inRange r ≡ true → stays (only A) r ≡ true
 none-beyond A e r h = rw (ne-eqb (r .station) A (omega (arith, ranges r h .station, leb-true (2 ^ 27) A e)))
 
 -- so taking its records out changes nothing
-left-beyond : (t : Table) (A : ℕ) → Sound t → leb (2 ^ 27) A ≡ true → left (is A) t ≡ t
+left-beyond : (t : Table) (A : ℕ) → Sound t → leb (2 ^ 27) A ≡ true → left (only A) t ≡ t
 left-beyond t A k e =
-    ap (withRecords t) (keep-every (stays (is A)) (t .records) (every-sub inRange (stays (is A)) (none-beyond A e) (t .records) (all-in-range t k)))
+    ap (withRecords t) (keep-every (stays (only A)) (t .records) (every-sub inRange (stays (only A)) (none-beyond A e) (t .records) (all-in-range t k)))
 
 -- a wipe, accepted or refused, takes the station's records out
-after-wipe : (t : Table) (A : ℕ) → Sound t → after t (wipe A) ≡ left (is A) t
-unfolding after answer
-after-wipe t A k = by-test (leb (2 ^ 27) A) (λ e. rw e (sym (left-beyond t A k e))) (λ e. rw e)
+leftOn-wipe : (t : Table) (A : ℕ) → Sound t → leftOn t (wipe A) ≡ left (only A) t
+unfolding leftOn answer
+leftOn-wipe t A k = by-test (leb (2 ^ 27) A) (λ e. rw e (sym (left-beyond t A k e))) (λ e. rw e)
 
 -- ---- demand 3
 
 -- over records
-untraced-records : (t : Table) (A : ℕ) → Sound t → left (is A) t ≡ t → WithoutTrace onRecords t A
+untraced-records : (t : Table) (A : ℕ) → Sound t → left (only A) t ≡ t → WithoutTrace onRecords t A
 untraced-records t A k e cs r =
-    let u = untraced (is A) in
-    let a : Alike (is A) t t = (k, sym e) in
-    (after-wipe (runs onRecords t cs) A (runs-good refined t cs k) ∙ sym (runs-untraced u t t cs a r .1), logs-untraced u t t cs a r)
+    let u = untraced (only A) in
+    let a : Alike (only A) t t = (k, sym e) in
+    (leftOn-wipe (runs onRecords t cs) A (runs-good refined t cs k) ∙ sym (runs-untraced u t t cs a r .1), transcript-untraced u t t cs a r)
 
 -- a machine that refines another leaves no trace where that one leaves none
-pub untraced-refined : {S T : Type 0} {k : Machine S Call Said} {l : Machine T Call Said} {write : T → S} {Good : T → Type 0}
-    → Refines k l write Good → (t : T) (A : ℕ) → Good t → WithoutTrace l t A → WithoutTrace k (write t) A
+pub untraced-refined : {S T : Type 0} {k : Machine S Call Said} {l : Machine T Call Said} {channelOf : T → S} {Good : T → Type 0}
+    → Refines k l channelOf Good → (t : T) (A : ℕ) → Good t → WithoutTrace l t A → WithoutTrace k (channelOf t) A
 untraced-refined f t A g d cs r =
-    let e = d cs (rw (logs-refined f t cs g) at r) in (
-      rw (runs-refined f t cs g, f .leaves _ (wipe A) (runs-good f t cs g), runs-refined f t (without (is A) cs) g, e .0),
-      rw (logs-refined f t cs g, logs-refined f t (without (is A) cs) g, e .1),
+    let e = d cs (rw (transcript-refined f t cs g) at r) in (
+      rw (runs-refined f t cs g, f .leaves _ (wipe A) (runs-good f t cs g), runs-refined f t (without (only A) cs) g, e .0),
+      rw (transcript-refined f t cs g, transcript-refined f t (without (only A) cs) g, e .1),
     )
 
 pub wiped-without-trace : WipedWithoutTrace
 wiped-without-trace m1 b o A =
     let k = sound-empty m1 b o in
     let t = empty m1 (capacity b) in
-    rw (opened-write m1 b o) (untraced-refined refined t A k (untraced-records t A k refl))
+    rw (opened-channelOf m1 b o) (untraced-refined refined t A k (untraced-records t A k refl))
 
 -- ---- the same of real calls
 
@@ -100,13 +100,13 @@ real-calls m1 b o z g e A =
 -- ---- soundness
 
 pub sound-opened : SoundOpened
-sound-opened m1 b o = rw (opened-write m1 b o) (sound-write (empty m1 (capacity b)) (sound-empty m1 b o))
+sound-opened m1 b o = rw (opened-channelOf m1 b o) (sound-channelOf (empty m1 (capacity b)) (sound-empty m1 b o))
 
 -- what a call that changes the table leaves
 sound-acts : (m : Channel) (c : Call) → sound m ≡ true → sound (acts m c) ≡ true
 sound-acts m c h =
-    answer-elim (write (changed (read m) c)) (λ _. m) (λ u. sound u ≡ true) (refusal m c)
-    (λ e. sound-write (changed (read m) c) (sound-changed (read m) c (sound-read m h) (sym (refusal-sound m c h) ∙ e)))
+    answer-elim (channelOf (changed (tableOf m) c)) (λ _. m) (λ u. sound u ≡ true) (callRefusal m c)
+    (λ e. sound-channelOf (changed (tableOf m) c) (sound-changed (tableOf m) c (sound-tableOf m h) (sym (callRefusal-sound m c h) ∙ e)))
     (λ _. h)
 
 pub sound-kept : SoundKept
@@ -126,13 +126,13 @@ pub never-unsound : NeverUnsound
 unfolding says
 never-unsound m1 b o cs c =
     let h = sound-runs (opened m1 b) cs (sound-opened m1 b o) in
-    (h, refusal-sound (runs onOctets (opened m1 b) cs) c h)
+    (h, callRefusal-sound (runs onOctets (opened m1 b) cs) c h)
 
 -- ---- refusals and results
 
 pub refused-changes-nothing : RefusedChangesNothing
 unfolding says
-refused-changes-nothing m c h = (sym (refused-leaves m c h), sym (answer-refused (reported (read m) c) (λ _. 0) refl h))
+refused-changes-nothing m c h = (sym (refused-leaves m c h), sym (answer-refused (reported (tableOf m) c) (λ _. 0) refl h))
 
 pub one-result : OneResult
 one-result s b c r q x y g h = (g .result ∙ sym (h .result), g .octets ∙ sym (h .octets))

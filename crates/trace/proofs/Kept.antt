@@ -17,13 +17,13 @@ use Rattle.record.specs.declared.Rec.{Rec}
 use Rattle.series.specs.Series.{lastSlot}
 use Rattle.sound.specs.Sound.{inRange, lasts, good}
 use Rattle.table.specs.declared.Request.{Request}
-use Rattle.table.specs.Table.{Table, Said, Call, clock, reserve, distance, wipe, look, bit, asked, setFar, of, tests, changed, withRecords}
-use Rattle.trace.specs.Records.{Sound, refusalOn, after}
+use Rattle.table.specs.Table.{Table, Said, Call, clock, reserve, distance, wipe, look, farOctet, newRecord, setFar, ownedBy, callTests, changed, withRecords}
+use Rattle.trace.specs.Records.{Sound, refusalOn, leftOn}
 
 -- a slot state or a search leaves the table, refused or not
-pub after-look : (t : Table) (f : Table → Said) → after t (look f) ≡ t
-unfolding after
-after-look t f = answer-elim t (λ _. t) (λ u. u ≡ t) (refusalOn t (look f)) (λ _. refl) (λ _. refl)
+pub leftOn-look : (t : Table) (f : Table → Said) → leftOn t (look f) ≡ t
+unfolding leftOn
+leftOn-look t f = answer-elim t (λ _. t) (λ u. u ≡ t) (refusalOn t (look f)) (λ _. refl) (λ _. refl)
 
 -- ---- a sound table
 
@@ -39,15 +39,15 @@ sound-with t rs k l g = record { m1-fits = k .m1-fits; capacity-fits = k .capaci
 -- ---- the records that reserve and distance write
 
 -- far as it is written is 0 or 1
-bit-most : (far : Bool) → leb (bit far) 1 ≡ true
-bit-most true = refl
-bit-most false = refl
+farOctet-most : (far : Bool) → leb (farOctet far) 1 ≡ true
+farOctet-most true = refl
+farOctet-most false = refl
 
 -- what a reserve adds is good: the request's tests are the ranges of a record
-asked-good : (t : Table) (q : Request) → Sound t → refusalOn t (reserve q) ≡ 0 → good (t .m1) (t .now) (asked (t .now) q) ≡ true
+newRecord-good : (t : Table) (q : Request) → Sound t → refusalOn t (reserve q) ≡ 0 → good (t .m1) (t .now) (newRecord (t .now) q) ≡ true
 unfolding inRange lasts lastSlot
-asked-good t q k h =
-    let p = firstOf-zero (tests t (reserve q)) refl h in
+newRecord-good t q k h =
+    let p = firstOf-zero (callTests t (reserve q)) refl h in
     let nine = or-eq-false (ltb 3 (q .superframes)) (outside 1 32 (q .length)) (p .1 .1 .1 .0) in
     let five = outside-false 2 255 (q .bs) (p .1 .1 .1 .1 .0) in
     let some = eqb-false (q .superframes) 0 (p .1 .1 .0) in
@@ -59,28 +59,28 @@ asked-good t q k h =
       le-ltb (q .superframes) 1 (omega arith),
       nine .0,
       nine .1,
-      bit-most (isFar (q .distance) (q .limit)),
+      farOctet-most (isFar (q .distance) (q .limit)),
     )
-    (le-leb (t .now) (lastSlot (t .m1) (asked (t .now) q)) (unfold lastSlot in omega arith))
+    (le-leb (t .now) (lastSlot (t .m1) (newRecord (t .now) q)) (unfold lastSlot in omega arith))
 
 -- and so it is after a distance, the station's own or as it was
-far-most : (own far : Bool) (held : ℕ) → leb held 1 ≡ true → leb (cond own (bit far) held) 1 ≡ true
-far-most true far held h = bit-most far
+far-most : (own far : Bool) (held : ℕ) → leb held 1 ≡ true → leb (cond own (farOctet far) held) 1 ≡ true
+far-most true far held h = farOctet-most far
 far-most false far held h = h
 
 -- far rewritten, a good record stays good
-setFar-good : (m1 now s : ℕ) (far : Bool) (r : Rec) → good m1 now r ≡ true → good m1 now (setFar s (bit far) r) ≡ true
+setFar-good : (m1 now s : ℕ) (far : Bool) (r : Rec) → good m1 now r ≡ true → good m1 now (setFar s (farOctet far) r) ≡ true
 unfolding inRange lasts lastSlot
 setFar-good m1 now s far r h =
     let p = simp and-eq-true-iff at h in
-    simp and-eq-true-iff ((p .0 .0, far-most (of s r) far (r .far) (p .0 .1)), p .1)
+    simp and-eq-true-iff ((p .0 .0, far-most (ownedBy s r) far (r .far) (p .0 .1)), p .1)
 
 -- ---- a call
 
 -- an accepted call leaves a sound table sound
 pub sound-changed : (t : Table) (c : Call) → Sound t → refusalOn t c ≡ 0 → Sound (changed t c)
 sound-changed t (clock slot) k h =
-    let p = firstOf-zero (tests t (clock slot)) refl h in
+    let p = firstOf-zero (callTests t (clock slot)) refl h in
     let stay = lasts (t .m1) slot in
     record {
       m1-fits = k .m1-fits;
@@ -90,24 +90,24 @@ sound-changed t (clock slot) k h =
       all-good = every-and inRange stay (keep stay (t .records)) (every-keep inRange stay (t .records) (all-in-range t k)) (every-kept stay (t .records));
     }
 sound-changed t (reserve q) k h =
-    let p = firstOf-zero (tests t (reserve q)) refl h in
+    let p = firstOf-zero (callTests t (reserve q)) refl h in
     let not-full = eqb-false (len (t .records)) (t .capacity) (p .1 .1 .1 .1 .1 .1 .1 .0) in
     sound-with t _ k
     (rw length-append (omega (arith, k .room)))
-    (rw (every-append (good (t .m1) (t .now)) (t .records) (asked (t .now) q ∷ []), k .all-good, asked-good t q k h))
+    (rw (every-append (good (t .m1) (t .now)) (t .records) (newRecord (t .now) q ∷ []), k .all-good, newRecord-good t q k h))
 sound-changed t (distance s d limit) k h =
     let g = good (t .m1) (t .now) in
     sound-with t _ k
     (rw length-map (k .room))
-    (every-map g g (setFar s (bit (isFar d limit))) (setFar-good (t .m1) (t .now) s (isFar d limit)) (t .records) (k .all-good))
+    (every-map g g (setFar s (farOctet (isFar d limit))) (setFar-good (t .m1) (t .now) s (isFar d limit)) (t .records) (k .all-good))
 sound-changed t (wipe s) k h =
-    let p : Rec → Bool = λ r. not (of s r) in
+    let p : Rec → Bool = λ r. not (ownedBy s r) in
     sound-with t _ k
     (le-trans (length-keep p (t .records)) (k .room))
     (every-keep (good (t .m1) (t .now)) p (t .records) (k .all-good))
 sound-changed t (look f) k h = k
 
 -- and so does any call
-pub sound-after : (t : Table) (c : Call) → Sound t → Sound (after t c)
-unfolding after
-sound-after t c k = answer-elim (changed t c) (λ _. t) Sound (refusalOn t c) (sound-changed t c k) (λ _. k)
+pub sound-leftOn : (t : Table) (c : Call) → Sound t → Sound (leftOn t c)
+unfolding leftOn
+sound-leftOn t c k = answer-elim (changed t c) (λ _. t) Sound (refusalOn t c) (sound-changed t c k) (λ _. k)

@@ -5,29 +5,29 @@ use mathlib.Core.List.{List, [], _∷_}
 use lib.Ieee.{ofInt, le}
 use Rattle.octets.specs.Refusals.{answer}
 use Rattle.table.specs.Table.{Call, reserve, wipe, same}
-use Rattle.table.specs.Memory.{write, leaves}
+use Rattle.table.specs.Memory.{channelOf, leaves}
 use Rattle.trace.specs.Machine.{runs}
-use Rattle.trace.specs.Sequences.{onOctets, without, is}
-use Rattle.trace.specs.Records.{after, onRecords}
-use Rattle.trace.specs.Claims.{oneSlot, opened1, PremiseNeeded}
+use Rattle.trace.specs.Sequences.{onOctets, without, only}
+use Rattle.trace.specs.Records.{leftOn, onRecords}
+use Rattle.trace.specs.Claims.{oneSlot, openedForOne, PremiseNeeded}
 use Rattle.trace.proofs.Machine.{runs-good}
-use Rattle.trace.proofs.Written.{leaves-write, refined, empty, sound-lent, lent-runs}
+use Rattle.trace.proofs.Written.{leaves-channelOf, refined, empty, roomForOne-sound, roomForOne-runs}
 
 -- the calls of both stations
 abbrev both : List Call
 both = reserve (oneSlot 1) ∷ reserve (oneSlot 2) ∷ []
 
 -- both stations' calls and the wipe leave none
-none-left : leaves (runs onOctets opened1 both) (wipe 1) .count ≡ 0
-unfolding after answer ofInt le same write
+none-left : leaves (runs onOctets openedForOne both) (wipe 1) .count ≡ 0
+unfolding leftOn answer ofInt le same channelOf
 none-left =
     let t = empty 4500 1 in
-    rw (lent-runs both, leaves-write (runs onRecords t both) (runs-good refined t both sound-lent) (wipe 1))
+    rw (roomForOne-runs both, leaves-channelOf (runs onRecords t both) (runs-good refined t both roomForOne-sound) (wipe 1))
 
 -- station 2's alone leave one
-one-left : runs onOctets opened1 (without (is 1) both) .count ≡ 1
-unfolding after answer ofInt le write
-one-left = rw (lent-runs (reserve (oneSlot 2) ∷ []))
+one-left : runs onOctets openedForOne (without (only 1) both) .count ≡ 1
+unfolding leftOn answer ofInt le channelOf
+one-left = rw (roomForOne-runs (reserve (oneSlot 2) ∷ []))
 
 pub premise-needed : PremiseNeeded
 premise-needed e =

@@ -12,26 +12,26 @@ use Rattle.sound.specs.Sound.{Channel, sound}
 use Rattle.table.specs.declared.State.{State}
 use Rattle.table.specs.declared.Answer.{Answer}
 use Rattle.table.specs.declared.Request.{Request}
-use Rattle.table.specs.Table.{Table, Call, reserve, wipe, look, tests}
-use Rattle.table.specs.Memory.{channel, read, write, leaves, says, Gives, openRefusal, opened, OpenGives}
-use Rattle.table.specs.Slots.{slotAnswer, said, asks}
+use Rattle.table.specs.Table.{Table, Call, reserve, wipe, look, callTests}
+use Rattle.table.specs.Memory.{channel, tableOf, channelOf, leaves, says, Gives, openRefusal, opened, OpenGives}
+use Rattle.table.specs.Slots.{slotAnswer, slotSaid, slotLook}
 use Rattle.trace.specs.Machine.{runs, Refines}
-use Rattle.trace.specs.Sequences.{onOctets, Called, is, without, WithoutTrace, MadeWithoutTrace}
+use Rattle.trace.specs.Sequences.{onOctets, Called, only, without, WithoutTrace, MadeWithoutTrace}
 use Rattle.trace.specs.Records.{Sound, onRecords}
 
 -- ---- octets and records
 
 -- a sound table over records is sound over octets, and is read back from them
 abbrev pub ReadBack : Type 0
-ReadBack = (t : Table) → Sound t → (sound (write t) ≡ true) × (read (write t) ≡ t)
+ReadBack = (t : Table) → Sound t → (sound (channelOf t) ≡ true) × (tableOf (channelOf t) ≡ t)
 
 -- the octets of a sound table come back from its records
 abbrev pub WrittenBack : Type 0
-WrittenBack = (m : Channel) → AreOctets (m .memory) → sound m ≡ true → Sound (read m) × (write (read m) ≡ m)
+WrittenBack = (m : Channel) → AreOctets (m .memory) → sound m ≡ true → Sound (tableOf m) × (channelOf (tableOf m) ≡ m)
 
 -- every call on the octets does what it does on the records, and says the same
 abbrev pub Refined : Type 0
-Refined = Refines onOctets onRecords write Sound
+Refined = Refines onOctets onRecords channelOf Sound
 
 -- ---- demand 3
 
@@ -58,7 +58,7 @@ SoundKept = (m : Channel) (c : Call) → sound m ≡ true → sound (leaves m c)
 abbrev pub NeverUnsound : Type 0
 NeverUnsound =
     (m1 : ℕ) (b : List ℕ) → openRefusal m1 b ≡ 0 → (cs : List Call) (c : Call)
-    → let m = runs onOctets (opened m1 b) cs in (sound m ≡ true) × (says m c .refusal ≡ firstOf (tests (read m) c))
+    → let m = runs onOctets (opened m1 b) cs in (sound m ≡ true) × (says m c .refusal ≡ firstOf (callTests (tableOf m) c))
 
 -- ---- refusals and results
 
@@ -74,7 +74,7 @@ OneResult =
 
 -- the slot state answers as the call `look` that stands for it in a sequence
 abbrev pub SlotStateLooks : Type 0
-SlotStateLooks = (m : Channel) (slot : ℕ) → said (slotAnswer m slot) ≡ says m (look (asks slot))
+SlotStateLooks = (m : Channel) (slot : ℕ) → slotSaid (slotAnswer m slot) ≡ says m (look (slotLook slot))
 
 -- ---- why demand 3 has its premise
 
@@ -83,17 +83,17 @@ abbrev pub oneSlot : ℕ → Request
 oneSlot s = record { station = s; rate = 1; superframes = 1; bs = 2; length = 1; distance = Unknown; limit = num 150 }
 
 -- a memory with room for one record, and the table opened there
-abbrev pub lent1 : List ℕ
-lent1 = packed 1 []
+abbrev pub roomForOne : List ℕ
+roomForOne = packed 1 []
 
-abbrev pub opened1 : Channel
-opened1 = opened 4500 lent1
+abbrev pub openedForOne : Channel
+openedForOne = opened 4500 roomForOne
 
 -- station 1 takes the only place, and station 2 is refused because the table is full: without station 1 it is not
 abbrev pub PremiseNeeded : Type 0
 PremiseNeeded =
     let cs = reserve (oneSlot 1) ∷ reserve (oneSlot 2) ∷ [] in
-    leaves (runs onOctets opened1 cs) (wipe 1) ≡ runs onOctets opened1 (without (is 1) cs) → ⊥
+    leaves (runs onOctets openedForOne cs) (wipe 1) ≡ runs onOctets openedForOne (without (only 1) cs) → ⊥
 
 pub record Claims : Type 0 where
   pub read-back : ReadBack

@@ -15,9 +15,9 @@ runs k s [] = s
 runs k s (c ∷ cs) = runs k (k .leaves s c) cs
 
 -- its calls, each with its answer
-abbrev pub logs : {S C W : Type 0} → Machine S C W → S → List C → List (C × W)
-logs k s [] = []
-logs k s (c ∷ cs) = (c, k .says s c) ∷ logs k (k .leaves s c) cs
+abbrev pub transcript : {S C W : Type 0} → Machine S C W → S → List C → List (C × W)
+transcript k s [] = []
+transcript k s (c ∷ cs) = (c, k .says s c) ∷ transcript k (k .leaves s c) cs
 
 -- ---- the same of real calls, of which nothing is known but a promise: `P s c w t`, the call c on s says w and leaves t
 

@@ -5,14 +5,14 @@ use mathlib.Core.Bool.{true}
 use lib.ListN.{length as len}
 use Rattle.octets.specs.Lists.{every}
 use Rattle.octets.specs.Refusals.{firstOf, answer, within}
-use Rattle.codec.specs.Parameters as Parameters
+use Rattle.codec.specs.Parameters.{m1Row, fits}
 use Rattle.sound.specs.Sound.{good}
-use Rattle.table.specs.Table.{Table, Said, Call, tests, changed, reported}
+use Rattle.table.specs.Table.{Table, Said, Call, callTests, changed, reported}
 use Rattle.trace.specs.Machine.{Machine}
 
 -- what soundness asks, over records
 pub record Sound (t : Table) : Type 0 where
-  pub m1-fits : Parameters.fits 1 (t .m1) ≡ true
+  pub m1-fits : fits m1Row (t .m1) ≡ true
   pub capacity-fits : within 1 2048 (t .capacity) ≡ true
   pub now-most : t .now ≤ 1_000_000_000
   pub room : len (t .records) ≤ t .capacity
@@ -20,15 +20,15 @@ pub record Sound (t : Table) : Type 0 where
 
 -- 11 is not among the refusals
 abbrev pub refusalOn : Table → Call → ℕ
-refusalOn t c = firstOf (tests t c)
+refusalOn t c = firstOf (callTests t c)
 
 -- the table that a call leaves
-unfoldable pub after : Table → Call → Table
-after t c = answer (refusalOn t c) (changed t c) (λ _. t)
+unfoldable pub leftOn : Table → Call → Table
+leftOn t c = answer (refusalOn t c) (changed t c) (λ _. t)
 
 -- its answer
-unfoldable pub told : Table → Call → Said
-told t c = record { refusal = refusalOn t c; number = answer (refusalOn t c) (reported t c) (λ _. 0) }
+unfoldable pub saidOn : Table → Call → Said
+saidOn t c = record { refusal = refusalOn t c; number = answer (refusalOn t c) (reported t c) (λ _. 0) }
 
 abbrev pub onRecords : Machine Table Call Said
-onRecords = record { leaves = after; says = told }
+onRecords = record { leaves = leftOn; says = saidOn }

@@ -9,7 +9,7 @@ use Rattle.sound.specs.Sound.{Channel}
 use Rattle.table.specs.declared.Answer.{Answer}
 use Rattle.table.specs.Table.{Said, Call, clock, reserve, distance, wipe, look}
 use Rattle.table.specs.Memory.{channel, leaves, says, Gives}
-use Rattle.trace.specs.Machine.{Machine, runs, logs, Made}
+use Rattle.trace.specs.Machine.{Machine, runs, transcript, Made}
 
 -- ---- the table in lent memory
 
@@ -18,8 +18,8 @@ abbrev pub onOctets : Machine Channel Call Said
 onOctets = record { leaves = leaves; says = says }
 
 -- the answer in what a function returns
-abbrev pub saidBy : Answer → Said
-saidBy r = record { refusal = r .refusal; number = r .number }
+abbrev pub callSaid : Answer → Said
+callSaid r = record { refusal = r .refusal; number = r .number }
 
 -- A real call: the function returned and left what it promises, and no more is known. It said what the result says, and left the
 -- state in the result with the octets. (A slot state or a search is lent memory that it cannot change, and returns no state: here it
@@ -28,7 +28,7 @@ pub record Called (m : Channel) (c : Call) (w : Said) (n : Channel) : Type 0 whe
   pub result : Answer
   pub octets : List ℕ
   pub promised : Gives m c result octets
-  pub said : w ≡ saidBy result
+  pub said : w ≡ callSaid result
   pub left : n ≡ channel (result .state) octets
 
 -- ---- whose calls they are
@@ -42,8 +42,8 @@ names set (wipe s) = set s
 names set (look f) = false
 
 -- the set of A alone
-abbrev pub is : ℕ → ℕ → Bool
-is A s = eqb s A
+abbrev pub only : ℕ → ℕ → Bool
+only A s = eqb s A
 
 -- the set of the others
 abbrev pub others : (ℕ → Bool) → ℕ → Bool
@@ -66,8 +66,8 @@ abbrev pub othersTold : (ℕ → Bool) → List (Call × Said) → List (Call ×
 othersTold gone es = keep (λ e. names (others gone) (e .0)) es
 
 -- no other station's reservation refused because the table was full
-abbrev pub roomy : (ℕ → Bool) → Call × Said → Bool
-roomy gone e = not (isReserve (e .0) && names (others gone) (e .0) && eqb (e .1 .refusal) 17)
+abbrev pub othersHadRoom : (ℕ → Bool) → Call × Said → Bool
+othersHadRoom gone e = not (isReserve (e .0) && names (others gone) (e .0) && eqb (e .1 .refusal) 17)
 
 -- ---- no trace, of any machine that takes these calls
 
@@ -76,14 +76,14 @@ roomy gone e = not (isReserve (e .0) && names (others gone) (e .0) && eqb (e .1 
 -- same in both.
 abbrev pub WithoutTrace : {S : Type 0} → Machine S Call Said → S → ℕ → Type 0
 WithoutTrace k s A =
-    (cs : List Call) → every (roomy (is A)) (logs k s cs) ≡ true
-    → (k .leaves (runs k s cs) (wipe A) ≡ runs k s (without (is A) cs))
-    × (othersTold (is A) (logs k s cs) ≡ othersTold (is A) (logs k s (without (is A) cs)))
+    (cs : List Call) → every (othersHadRoom (only A)) (transcript k s cs) ≡ true
+    → (k .leaves (runs k s cs) (wipe A) ≡ runs k s (without (only A) cs))
+    × (othersTold (only A) (transcript k s cs) ≡ othersTold (only A) (transcript k s (without (only A) cs)))
 
 -- The same of real calls, of which nothing is known but a promise: the sequence, and then a wipe of A that leaves v; and, from the same
 -- state, the sequence without A's calls.
 abbrev pub MadeWithoutTrace : {S : Type 0} → (S → Call → Said → S → Type 0) → S → ℕ → Type 0
 MadeWithoutTrace {S} P s A =
-    (cs : List Call) (t u v : S) (es fs : List (Call × Said)) (w : Said) → Made P s cs t es → P t (wipe A) w v → Made P s (without (is A) cs) u fs
-    → every (roomy (is A)) es ≡ true
-    → (v ≡ u) × (othersTold (is A) es ≡ othersTold (is A) fs)
+    (cs : List Call) (t u v : S) (es fs : List (Call × Said)) (w : Said) → Made P s cs t es → P t (wipe A) w v → Made P s (without (only A) cs) u fs
+    → every (othersHadRoom (only A)) es ≡ true
+    → (v ≡ u) × (othersTold (only A) es ≡ othersTold (only A) fs)

@@ -15,12 +15,12 @@ use Rattle.sound.specs.Sound.{records, sound}
 use Rattle.table.specs.declared.State.{State}
 use Rattle.table.specs.Memory.{channel}
 use Rattle.walk.specs.declared.View.{View}
-use Rattle.walk.specs.declared.Answer.{Answer}
+use Rattle.walk.specs.declared.WalkAnswer.{WalkAnswer}
 use Rattle.walk.specs.declared.Handed.{Handed}
 use Rattle.walk.specs.declared.Handed.the-variants.{One, NoMore}
 use Rattle.walk.specs.Walk.{begun, ahead, handsOut, placed, stepped, recordAt}
 use Rattle.walk.specs.Claims.{handedOut, AllInOrder, NothingUnsound, RecordWalked, ByNumber}
-use Rattle.walk.proofs.Ahead.{held-sound, held-unsound, stepped-one, stepped-none}
+use Rattle.walk.proofs.Ahead.{toHandOut-sound, toHandOut-unsound, stepped-one, stepped-none}
 
 -- with none ahead a view says "no more" for ever
 handed-none : (n : ℕ) (v : View) → ahead v ≡ [] → handedOut n v ≡ replicate n NoMore
@@ -40,15 +40,15 @@ module _ (s : State) (memory : RefT (List ℕ)) where
   -- all records of a sound table are ahead of the view that a walk begins with
   ahead-sound : sound (channel s (now memory)) ≡ true → ahead (begun s memory .view) ≡ records (channel s (now memory))
   unfolding begun ahead records
-  ahead-sound h = rw (held-sound (channel s (now memory)) h)
+  ahead-sound h = rw (toHandOut-sound (channel s (now memory)) h)
 
   -- and none of any other's
   ahead-unsound : sound (channel s (now memory)) ≡ false → ahead (begun s memory .view) ≡ []
   unfolding begun ahead
-  ahead-unsound h = rw (held-unsound (channel s (now memory)) h)
+  ahead-unsound h = rw (toHandOut-unsound (channel s (now memory)) h)
 
   -- what a walk hands out once it stands at a place, beside its refusal
-  abbrev pub walked : ℕ → Answer
+  abbrev pub walked : ℕ → WalkAnswer
   walked i = record { refusal = begun s memory .refusal; handed = stepped (placed (begun s memory .view) i) .handed }
 
   -- that is what record_at gives
@@ -56,8 +56,8 @@ module _ (s : State) (memory : RefT (List ℕ)) where
   unfolding begun ahead handsOut placed stepped recordAt records answer
   recordAt-walked i =
       by-test (sound (channel s (now memory)))
-      (λ h. rw (held-sound (channel s (now memory)) h, h))
-      (λ h. rw (held-unsound (channel s (now memory)) h, h, drop-nil i))
+      (λ h. rw (toHandOut-sound (channel s (now memory)) h, h))
+      (λ h. rw (toHandOut-unsound (channel s (now memory)) h, h, drop-nil i))
 
 -- ---- by number
 
@@ -93,7 +93,7 @@ nothing-unsound s memory n h =
     (rw h, handed-none n (begun s memory .view) (ahead-unsound s memory h))
 
 pub record-walked : RecordWalked
-record-walked s memory i = ap (λ (a : Answer). a .handed) (sym (recordAt-walked s memory i))
+record-walked s memory i = ap (λ (a : WalkAnswer). a .handed) (sym (recordAt-walked s memory i))
 
 pub by-number : ByNumber
 unfolding recordAt answer

@@ -5,12 +5,12 @@ use Rattle.record.specs.declared.Rec.{Rec}
 use Rattle.sound.specs.Sound.{Channel}
 use Rattle.walk.specs.declared.Start.{Start}
 use Rattle.walk.specs.declared.Reached.{Reached}
-use Rattle.walk.specs.Walk.{refusal, held, handsOut, after}
+use Rattle.walk.specs.Walk.{walkRefusal, toHandOut, handsOut, nextAfter}
 
 -- how a walk on a table starts
 unfoldable pub started : Channel → Start
-started m = record { refusal = refusal m; count = held m }
+started m = record { refusal = walkRefusal m; count = toHandOut m }
 
 -- what is handed out of the records ahead, and the place after it
 unfoldable pub reached : List Rec → ℕ → Reached
-reached rs next = record { handed = handsOut rs; next = after rs next }
+reached rs next = record { handed = handsOut rs; next = nextAfter rs next }

@@ -3,7 +3,7 @@ use record::Rec;
 use table::State;
 ghost use mathlib.Core.Path.{_≡_};
 ghost use lib.ListN.{take, drop};
-ghost use Rattle.record.specs.Record.{view};
+ghost use Rattle.record.specs.Record.{allRecords};
 ghost use Rattle.table.specs.Memory.{channel};
 ghost use Rattle.walk.specs.Walk.{begun, placed, stepped, recordAt};
 ghost use Rattle.walk.specs.Steps.{started, reached};
@@ -35,7 +35,7 @@ pub struct Step<'a> {
 }
 
 // What record_at gives: the refusal, 0 for none, and what a walk hands out at the place.
-pub struct Answer {
+pub struct WalkAnswer {
     pub refusal: u32,
     pub handed: Handed,
 }
@@ -72,7 +72,7 @@ fn started(s: State, memory: &[u8]) -> Start
 
 // The record at a place of the first count, where there is one.
 fn reach(memory: &[u8], next: u32, count: u32) -> Reached
-    ensures { λ r. ⌜ r ≡ reached (drop next (take count (view (now (memory .entry))))) next ⌝ }
+    ensures { λ r. ⌜ r ≡ reached (drop next (take count (allRecords (now (memory .entry))))) next ⌝ }
 {
     let held = record::held_count(memory, count as usize);
     let i = next as usize;
@@ -138,12 +138,12 @@ pub fn skip_to<'a>(v: View<'a>, i: u32) -> View<'a>
 // ---- for everyone else
 
 // What a walk hands out as record i, from plain parameters. Refused 11.
-pub fn record_at(s: State, memory: &[u8], i: u32) -> Answer
+pub fn record_at(s: State, memory: &[u8], i: u32) -> WalkAnswer
     ensures { λ r. ⌜ r ≡ recordAt (channel s (now (memory .entry))) i ⌝ }
 {
     let begun = begin(s, memory);
     let step = next(skip_to(begun.view, i));
-    Answer {
+    WalkAnswer {
         refusal: begun.refusal,
         handed: step.handed,
     }

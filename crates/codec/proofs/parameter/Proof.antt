@@ -1,22 +1,32 @@
 -- `codec::parameter` meets its contract: each `return` rewrites by the tests that led there; each row has a step. Assumes nothing.
-use Prim.Native.Nat.{ℕ, zero, suc, _-_, _<_}
+use mathlib.Core.Path.{_≡_, _∙_}
+use mathlib.Core.Bool.{false, not}
 use mathlib.Core.List.{[]}
-use native.Mathlib.Omega.{arith}
 use borrow.Author.Tests.{eq-eqb, ne-eqb}
-use lib.Dec.{lit<}
-use lib.ListN.{getD}
 use Rattle.octets.proofs.Refusals.{outside-false}
-use Rattle.codec.specs.Parameters.{parameters, fits, parameterTests}
+use Rattle.codec.specs.Parameters.{byRow, fits, parameterTests}
+use Rattle.codec.specs.Steps.{columns}
+use Rattle.codec.proofs.Parameters.{Known, known}
 use borrow.Author.Needs.{needs}
 use Rattle.codec.proofs.parameter.Statement.{statement}
 use Rattle.codec.proofs.parameter.Tie as tie
 
--- a row's step is not 0
-stepped : (i : ℕ) → i < 3 → 0 < getD (getD parameters i []) 3 0
-stepped zero h = lit< tt
-stepped (suc zero) h = lit< tt
-stepped (suc (suc zero)) h = lit< tt
-stepped (suc (suc (suc i))) h = absurd (omega arith)
+-- ---- what is known at a place
+
+module _ (c : tie.After-row) where
+  -- the number has a row
+  abbrev its : Known (c .before .before .args .number)
+  its = known _ (c .before .if1 .left)
+
+  -- and it is this one
+  in-columns : c .row .result ≡ columns (its .row)
+  in-columns = c .row .ensures ∙ its .follows columns []
+
+  -- which 10 goes by
+  follows : byRow (c .before .before .args .number) (λ row. not (fits row (c .before .before .args .figure))) false ≡ not (fits (its .row) (c .before .before .args .figure))
+  follows = its .follows (λ row. not (fits row (c .before .before .args .figure))) false
+
+-- ---- the needs
 
 returns : tie.Need-returns
 unfolding parameterTests
@@ -36,28 +46,27 @@ array-read-step c = search needs
 
 returns-2 : tie.Need-returns-2
 unfolding parameterTests fits
-returns-2 c = simp (c .before .before .if1 .left, rw (c .before .row .ensures) at (c .if2 .taken))
+returns-2 c =
+    let x = c .before in
+    simp (x .before .if1 .left, follows x, rw (in-columns x) at (c .if2 .taken))
 
 sub-if3 : tie.Need-sub-if3
 sub-if3 c = outside-false _ _ _ (c .if2 .left) .0
 
 rem-if3 : tie.Need-rem-if3
-rem-if3 c =
-    let number = c .before .before .before .args .number in
-    let range = outside-false 1 3 number (c .before .before .if1 .left) in
-    rw (c .before .row .ensures) (stepped (number - 1) (omega arith))
+rem-if3 c = rw (in-columns (c .before)) (its (c .before) .stepped)
 
 returns-3 : tie.Need-returns-3
 unfolding parameterTests fits
 returns-3 c =
-    let row = c .before .before .row .ensures in
-    simp (c .before .before .before .if1 .left, rw row at (c .before .if2 .left), ne-eqb _ _ (rw row at (c .if3 .taken)))
+    let x = c .before .before in
+    simp (x .before .if1 .left, follows x, rw (in-columns x) at (c .before .if2 .left), ne-eqb _ _ (rw (in-columns x) at (c .if3 .taken)))
 
 returns-4 : tie.Need-returns-4
 unfolding parameterTests fits
 returns-4 c =
-    let row = c .before .before .row .ensures in
-    simp (c .before .before .before .if1 .left, rw row at (c .before .if2 .left), eq-eqb _ _ (rw row at (c .if3 .left)))
+    let x = c .before .before in
+    simp (x .before .if1 .left, follows x, rw (in-columns x) at (c .before .if2 .left), eq-eqb _ _ (rw (in-columns x) at (c .if3 .left)))
 
 pub parameter-spec : {M : Type 1} → statement M
 parameter-spec =

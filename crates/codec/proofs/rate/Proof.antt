@@ -17,20 +17,20 @@ good-list c = sym (c .before .bad-list .ensures) ∙ c .if1 .left
 bad-list-requires : tie.Need-bad-list-requires
 bad-list-requires c κs = search needs
 
-refused-found-requires : tie.Need-refused-found-requires
-refused-found-requires c κs = search needs
+refused-lookup-requires : tie.Need-refused-lookup-requires
+refused-lookup-requires c κs = search needs
 
 returns : tie.Need-returns
 returns c =
-    c .refused-found .ensures
+    c .refused-lookup .ensures
     ∙ answer-refused _ _ (rate-7 _ _ (sym (c .before .before .bad-list .ensures) ∙ c .before .if1 .taken)) (omega arith)
 
-refused-found-requires-2 : tie.Need-refused-found-requires-2
-refused-found-requires-2 c κs = search needs
+refused-lookup-requires-2 : tie.Need-refused-lookup-requires-2
+refused-lookup-requires-2 c κs = search needs
 
 returns-2 : tie.Need-returns-2
 returns-2 c =
-    c .refused-found2 .ensures
+    c .refused-lookup2 .ensures
     ∙ answer-refused _ _ (rate-3-high _ _ (good-list (c .before .before)) (c .before .if2 .taken)) (omega arith)
 
 shared-slice-read-entry : tie.Need-shared-slice-read-entry
@@ -50,9 +50,9 @@ rate-spec =
     tie.close
     (tie.spec
     bad-list-requires
-    refused-found-requires
+    refused-lookup-requires
     returns
-    refused-found-requires-2
+    refused-lookup-requires-2
     returns-2
     shared-slice-read-entry
     judge-entry-requires

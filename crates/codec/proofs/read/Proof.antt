@@ -8,7 +8,7 @@ use denote.Ref.{now}
 use borrow.Author.Needs.{needs}
 use borrow.Author.Tests.{eq-eqb, ne-eqb}
 use lib.Dec.{eqb}
-use Rattle.octets.specs.Complement.{badOffset}
+use Rattle.octets.specs.Complement.{beyond127}
 use Rattle.octets.specs.Refusals.{firstOf, outside}
 use Rattle.octets.proofs.Complement.{octet-offset}
 use Rattle.octets.proofs.Refusals.{answer-refused, answer-accepted}
@@ -43,7 +43,7 @@ good-bs : (c : tie.Else5) → outside 2 255 (block (c .before .before .before .b
 good-bs c = octet-inside _ (c .if5 .left) (omega (arith, c .before .shared-slice-known5 .given 6))
 
 -- of the octets of an offset, only 128 is bad
-offset : (c : tie.After-shared-slice-known6) → badOffset (block (c .before .before .before .before .before .before .before .before .before) .bo) ≡ eqb (octet 8 (octets (c .before .before .before .before .before .before .before .before .before))) 128
+offset : (c : tie.After-shared-slice-known6) → beyond127 (block (c .before .before .before .before .before .before .before .before .before) .bo) ≡ eqb (octet 8 (octets (c .before .before .before .before .before .before .before .before .before))) 128
 offset c = octet-offset (octet 8 (octets (c .before .before .before .before .before .before .before .before .before))) (omega (arith, c .shared-slice-known6 .given 7))
 
 refused-reading-requires : tie.Need-refused-reading-requires

@@ -2,7 +2,7 @@
 use mathlib.Core.Path.{ap, _∙_}
 use denote.Ref.{now}
 use borrow.Author.Needs.{needs}
-use Rattle.codec.specs.declared.Found.{Found}
+use Rattle.codec.specs.declared.Lookup.{Lookup}
 use Rattle.gemthatch.specs.OverC.{overC}
 use Rattle.gemthatch.proofs.Most.{rate-most}
 use Rattle.gemthatch.proofs.gemthatch_rate.Statement.{statement}
@@ -17,7 +17,7 @@ over-c-requires c κs =
     rw (c .rate .ensures) (rate-most (now (a .rates)) (a .code))
 
 returns : tie.Need-returns
-returns c = c .over-c .ensures ∙ ap (λ (f : Found). overC (f .refusal) (f .number)) (c .before .rate .ensures)
+returns c = c .over-c .ensures ∙ ap (λ (f : Lookup). overC (f .refusal) (f .number)) (c .before .rate .ensures)
 
 pub gemthatch-rate-spec : {M : Type 1} → statement M
 gemthatch-rate-spec = tie.close (tie.spec rate-requires over-c-requires returns)

@@ -2,15 +2,15 @@
 use mathlib.Core.Path.{_≡_, sym, ap, _∙_}
 use borrow.Author.Needs.{needs}
 use Rattle.record.specs.Record.{blank}
-use Rattle.walk.specs.declared.Answer.{Answer}
+use Rattle.walk.specs.declared.WalkAnswer.{WalkAnswer}
 use Rattle.walk.specs.declared.Handed.{Handed}
 use Rattle.gemthatch.specs.OverC.{place, placeAt}
 use Rattle.gemthatch.proofs.gemthatch_record_at.Statement.{statement}
 use Rattle.gemthatch.proofs.gemthatch_record_at.Tie as tie
 
 -- the place of what was handed out, by what the walk's answer is
-placed : {h : Handed} {a b : Answer} → h ≡ a .handed → a ≡ b → place (a .refusal) h ≡ place (b .refusal) (b .handed)
-placed {a = a} e e′ = ap (place (a .refusal)) e ∙ ap (λ (x : Answer). place (x .refusal) (x .handed)) e′
+placed : {h : Handed} {a b : WalkAnswer} → h ≡ a .handed → a ≡ b → place (a .refusal) h ≡ place (b .refusal) (b .handed)
+placed {a = a} e e′ = ap (place (a .refusal)) e ∙ ap (λ (x : WalkAnswer). place (x .refusal) (x .handed)) e′
 
 record-at-requires : tie.Need-record-at-requires
 record-at-requires c κs = search needs

@@ -4,7 +4,7 @@ use denote.Ref.{now}
 use borrow.Author.Needs.{needs}
 use Rattle.table.specs.Table.{wipe}
 use Rattle.gemthatch.specs.OverC.{lent}
-use Rattle.gemthatch.proofs.Most.{returned-most, returned-called}
+use Rattle.gemthatch.proofs.Most.{returned-most, returned-callNumber}
 use Rattle.gemthatch.proofs.gemthatch_wipe.Statement.{statement}
 use Rattle.gemthatch.proofs.gemthatch_wipe.Tie as tie
 
@@ -24,7 +24,7 @@ returns : tie.Need-returns
 returns c =
     let a = c .before .before .before .before .before .before .args in
     let k = c .before .before .before .wipe in
-    (c .over-c .ensures ∙ returned-called (k .result) (lent (a .m1) (a .time) (a .count) (now (a .memory))) (wipe (a .station)) (k .ensures .result), k .ensures .octets)
+    (c .over-c .ensures ∙ returned-callNumber (k .result) (lent (a .m1) (a .time) (a .count) (now (a .memory))) (wipe (a .station)) (k .ensures .result), k .ensures .octets)
 
 pub gemthatch-wipe-spec : {M : Type 1} → statement M
 gemthatch-wipe-spec = tie.close (tie.spec wipe-requires over-c-requires same-length returns)

@@ -10,8 +10,8 @@ use mir.Syntax.{w32}
 use mir.Val.{SFits}
 use mir.Facts.{toZ-ofZ}
 use Rattle.codec.specs.declared.Block.{Block}
-use Rattle.lines.specs.Text.{signed}
-use Rattle.lines.specs.Listing.{fields}
+use Rattle.lines.specs.Text.{signedDecimal}
+use Rattle.lines.specs.Listing.{blockLine}
 use Rattle.lines.specs.Steps.{field}
 use Rattle.lines.proofs.Wrote.{and-then}
 use borrow.Author.Needs.{needs}
@@ -24,7 +24,7 @@ bo-fits c = record { sfits = c .struct-told .given .1 .1 .1 .1 .1 .0 .1 }
 
 -- a signed number, and a space
 abbrev signed-field : ℤ → List ℕ
-signed-field z = signed z ++ (32 ∷ [])
+signed-field z = signedDecimal z ++ (32 ∷ [])
 
 -- there is room for the seven texts together
 all-fit : (c : tie.Start) → (b : Block) → b ≡ c .args .b
@@ -37,7 +37,7 @@ all-fit : (c : tie.Start) → (b : Block) → b ≡ c .args .b
     + length (signed-field (b .bo))
     + length (field (b .bt) 10)
     ≤ length (now (c .args .out))
-unfolding fields
+unfolding blockLine
 all-fit c b e = simp (e, length-append) (omega (arith, simp length-append at (c .pre .room)))
 
 put-field-requires : tie.Need-put-field-requires
@@ -73,7 +73,7 @@ same-length : tie.Need-same-length
 same-length c = search needs
 
 returns : tie.Need-returns
-unfolding fields
+unfolding blockLine
 returns c =
     let c7 = c .before .before in
     let c6 = c7 .before .before .before .before in

@@ -4,8 +4,8 @@ use mathlib.Core.Path.{_≡_, ap}
 use native.Mathlib.Omega.{arith}
 use denote.Ref.{now}
 use lib.ListN.{length}
-use Rattle.lines.specs.Listing.{fields, refused, line, longest}
-use Rattle.lines.proofs.Lines.{line-fields, line-refused, line-longest}
+use Rattle.lines.specs.Listing.{blockLine, refusedLine, line, longest}
+use Rattle.lines.proofs.Lines.{line-blockLine, line-refusedLine, line-longest}
 use borrow.Author.Needs.{needs}
 use Rattle.lines.proofs.put_line.Statement.{statement}
 use Rattle.lines.proofs.put_line.Tie as tie
@@ -15,16 +15,16 @@ fits : (c : tie.After-shared-slice-known) → length (line (now (c .before .befo
 fits c = line-longest (now (c .before .before .args .group)) (λ i. omega (arith, c .shared-slice-known .given i))
 
 -- it is that of the reading's fields
-accepted : (c : tie.Then1) → line (now (c .before .before .before .before .before .args .group)) ≡ fields (c .before .before .read .result .block)
+accepted : (c : tie.Then1) → line (now (c .before .before .before .before .before .args .group)) ≡ blockLine (c .before .before .read .result .block)
 accepted c =
     let r = c .before .before in
-    line-fields (now (r .before .before .before .args .group)) (r .read .result) (r .read .ensures) (c .if1 .taken)
+    line-blockLine (now (r .before .before .before .args .group)) (r .read .result) (r .read .ensures) (c .if1 .taken)
 
 -- or of its refusal
-refused-by : (c : tie.Else1) → line (now (c .before .before .before .before .before .args .group)) ≡ refused (c .before .before .read .result .refusal)
+refused-by : (c : tie.Else1) → line (now (c .before .before .before .before .before .args .group)) ≡ refusedLine (c .before .before .read .result .refusal)
 refused-by c =
     let r = c .before .before in
-    line-refused (now (r .before .before .before .args .group)) (r .read .result) (r .read .ensures) (c .if1 .left)
+    line-refusedLine (now (r .before .before .before .args .group)) (r .read .result) (r .read .ensures) (c .if1 .left)
 
 read-requires : tie.Need-read-requires
 read-requires c κs = search needs

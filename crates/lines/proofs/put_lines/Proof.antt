@@ -3,21 +3,21 @@ use Prim.Native.Nat.{_*_, _-_, _≤_}
 use mathlib.Core.Path.{_≡_, refl}
 use native.Mathlib.Omega.{arith}
 use denote.Ref.{now}
-use Rattle.lines.specs.Listing.{groups, lines, longest}
+use Rattle.lines.specs.Listing.{groups, firstLines, longest}
 use Rattle.lines.specs.Steps.{Wrote}
-use Rattle.lines.proofs.Lines.{lines-next}
+use Rattle.lines.proofs.Lines.{firstLines-next}
 use Rattle.lines.proofs.Wrote.{and-then, length-wrote}
 use Rattle.lines.proofs.put_lines.Statement.{statement}
 use Rattle.lines.proofs.put_lines.Tie as tie
 
 abbrev Inv-loop : tie.InvT-loop
-Inv-loop text₀ input n at₀ k₀ text at k = (k ≤ n) × Wrote text₀ 0 (lines k input) at text × (at ≤ k * longest)
+Inv-loop text₀ input n at₀ k₀ text at k = (k ≤ n) × Wrote text₀ 0 (firstLines k input) at text × (at ≤ k * longest)
 
 abbrev μ-loop : tie.MeasureT-loop
 μ-loop text₀ input n at₀ k₀ text at k = n - k
 
 loop-holds : tie.Need-loop-holds Inv-loop μ-loop
-unfolding lines
+unfolding firstLines
 loop-holds c = (omega arith, record { place = refl; holds = refl }, omega arith)
 
 group-of-requires : tie.Need-group-of-requires Inv-loop μ-loop
@@ -37,7 +37,7 @@ loop-again c =
     let l = c .before .before .before .before .before .before in
     let s = now (l .before .before .before .args .input) in
     let w = rw (c .before .before .before .group-of .ensures) at (c .before .before .put-line .ensures .0) in
-    (omega arith, rw (lines-next (l .loop .k) s) (and-then (l .loop .inv .1) w), omega arith)
+    (omega arith, rw (firstLines-next (l .loop .k) s) (and-then (l .loop .inv .1) w), omega arith)
 
 same-length : tie.Need-same-length Inv-loop μ-loop
 same-length c = length-wrote (c .before .loop .inv .1)

@@ -1,5 +1,5 @@
 -- `lines::put_refused` meets its contract: the word, and then the number. Assumes nothing.
-use Rattle.lines.specs.Listing.{refused}
+use Rattle.lines.specs.Listing.{refusedLine}
 use Rattle.lines.specs.Steps.{field}
 use Rattle.lines.proofs.Wrote.{and-then, room-first, room-then}
 use borrow.Author.Needs.{needs}
@@ -10,18 +10,18 @@ slice-aggregate-put-text : tie.Need-slice-aggregate-put-text
 slice-aggregate-put-text c = search needs
 
 put-text-requires : tie.Need-put-text-requires
-unfolding refused
+unfolding refusedLine
 put-text-requires c κs = let s = c .before .before .before in room-first (field (s .args .n) 10) (s .pre)
 
 put-field-requires : tie.Need-put-field-requires
-unfolding refused
+unfolding refusedLine
 put-field-requires c κs = let p = c .before .before .before in room-then (p .before .before .before .before .pre) (p .put-text .ensures)
 
 same-length : tie.Need-same-length
 same-length c = search needs
 
 returns : tie.Need-returns
-unfolding refused
+unfolding refusedLine
 returns c = and-then (c .before .before .before .before .before .before .put-text .ensures) (c .before .before .put-field .ensures)
 
 pub put-refused-spec : {M : Type 1} → statement M

@@ -8,7 +8,7 @@ use lib.IntN.{pos, natAbs}
 use lib.ListN.{length-set, length-append}
 use lib.Signed.{ltZ}
 use mir.Facts.{toZ-ofZ}
-use Rattle.lines.specs.Text.{signed}
+use Rattle.lines.specs.Text.{signedDecimal}
 use Rattle.lines.proofs.Signed.{sign-room, sign-wrote}
 use Rattle.lines.proofs.Wrote.{length-wrote}
 use borrow.Author.Needs.{needs}
@@ -37,7 +37,7 @@ add-i c =
 slice-write-out : tie.Need-slice-write-out
 slice-write-out c =
     let s = c .before .before .before in
-    omega (arith, length-append (signed (s .args .z)) (32 ∷ []))
+    omega (arith, length-append (signedDecimal (s .args .z)) (32 ∷ []))
 
 put-field-requires : tie.Need-put-field-requires
 put-field-requires c κs =

@@ -3,7 +3,7 @@ use native.Mathlib.Omega.{arith}
 use borrow.Author.Needs.{needs}
 use denote.Ref.{now}
 use lib.ListN.{replicate}
-use Rattle.lines.specs.Listing.{told}
+use Rattle.lines.specs.Listing.{linesIn}
 use Rattle.marked.proofs.Fronts.{counts-only}
 use Rattle.marked.proofs.put_group.Statement.{statement}
 use Rattle.marked.proofs.put_group.Tie as tie
@@ -27,13 +27,13 @@ array-share-prefix-text : tie.Need-array-share-prefix-text
 array-share-prefix-text c =
     let l = c .before .before .before .before in
     let octets = now (l .before .before .before .before .args .octets) in
-    omega (arith, counts-only 31 _ (told octets (replicate 31 0)) _ (l .list .ensures .0) (l .list .ensures .1) .0)
+    omega (arith, counts-only 31 _ (linesIn octets (replicate 31 0)) _ (l .list .ensures .0) (l .list .ensures .1) .0)
 
 slice-aggregate-put-2 : tie.Need-slice-aggregate-put-2
 slice-aggregate-put-2 c =
     let l = c .before .before .before .before .before in
     let octets = now (l .before .before .before .before .args .octets) in
-    counts-only 31 _ (told octets (replicate 31 0)) _ (l .list .ensures .0) (l .list .ensures .1) .1
+    counts-only 31 _ (linesIn octets (replicate 31 0)) _ (l .list .ensures .0) (l .list .ensures .1) .1
 
 put-requires-3 : tie.Need-put-requires-3
 put-requires-3 c κs = search needs

@@ -4,8 +4,8 @@ use native.Mathlib.Omega.{arith}
 use borrow.Author.Needs.{needs}
 use denote.Ref.{now}
 use lib.ListN.{List·getD-eq-default}
-use Rattle.record.specs.Record.{capacity, size, blank, view}
-use Rattle.record.proofs.Views.{length-view}
+use Rattle.record.specs.Record.{capacity, size, blank, allRecords}
+use Rattle.record.proofs.Images.{length-allRecords}
 use Rattle.record.proofs.load.Statement.{statement}
 use Rattle.record.proofs.load.Tie as tie
 
@@ -20,7 +20,7 @@ returns-2 : tie.Need-returns-2
 unfolding blank capacity size
 returns-2 c =
     let m = now (c .before .before .args .memory) in
-    sym (List·getD-eq-default (view m) blank {n = c .before .before .args .i} (omega (arith, length-view m)))
+    sym (List·getD-eq-default (allRecords m) blank {n = c .before .before .args .i} (omega (arith, length-allRecords m)))
 
 pub load-spec : {M : Type 1} → statement M
 load-spec = tie.close (tie.spec load-at-requires returns returns-2)

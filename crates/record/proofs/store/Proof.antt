@@ -4,9 +4,9 @@ use native.Mathlib.Omega.{arith}
 use borrow.Author.Needs.{needs}
 use denote.Ref.{now}
 use lib.Seq.{set-out}
-use Rattle.record.specs.Record.{capacity, size, view}
-use Rattle.record.proofs.Views.{length-view}
-use Rattle.record.proofs.Places.{put-out}
+use Rattle.record.specs.Record.{capacity, size, allRecords}
+use Rattle.record.proofs.Images.{length-allRecords}
+use Rattle.record.proofs.Places.{stored-out}
 use Rattle.record.proofs.store.Statement.{statement}
 use Rattle.record.proofs.store.Tie as tie
 
@@ -25,8 +25,8 @@ unfolding capacity size
 returns-2 c =
     let s = c .before .before in
     let m = now (s .args .memory) in (
-      sym (put-out m (s .args .i) (s .args .r) (omega arith)),
-      sym (set-out (view m) (s .args .i) (s .args .r) (omega (arith, length-view m))),
+      sym (stored-out m (s .args .i) (s .args .r) (omega arith)),
+      sym (set-out (allRecords m) (s .args .i) (s .args .r) (omega (arith, length-allRecords m))),
     )
 
 pub store-spec : {M : Type 1} → statement M

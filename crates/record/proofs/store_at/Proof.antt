@@ -5,7 +5,7 @@ use denote.Ref.{now}
 use borrow.Rule.Slice.PartMut.{post-is}
 use borrow.Author.Needs.{needs}
 use Rattle.record.specs.Record.{size, fields, FitRec, capacity}
-use Rattle.record.proofs.Places.{put-stored}
+use Rattle.record.proofs.Places.{store-promised}
 use Rattle.record.proofs.store_at.Statement.{statement}
 use Rattle.record.proofs.store_at.Tie as tie
 
@@ -39,7 +39,7 @@ returns c =
     let r = s .args .r in
     let k : i < capacity m = unfold capacity in omega arith in
     let h : FitRec r = omega (arith, s .good) in
-    put-stored _ m i r h k (rw (c .before .before .encode-over .ensures, post-is (i * 12) (i * 12 + 12) m (omega arith)))
+    store-promised _ m i r h k (rw (c .before .before .encode-over .ensures, post-is (i * 12) (i * 12 + 12) m (omega arith)))
 
 pub store-at-spec : {M : Type 1} → statement M
 store-at-spec =

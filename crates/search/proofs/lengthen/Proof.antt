@@ -21,12 +21,6 @@ enum-told-3 c = search needs
 add-t6 : tie.Need-add-t6
 add-t6 c = search needs
 
-enum-told-4 : tie.Need-enum-told-4
-enum-told-4 c = search needs
-
-add-t7 : tie.Need-add-t7
-add-t7 c = search needs
-
 returns : tie.Need-returns
 returns c = rw (c .before .before .enum-told .given .1)
 
@@ -35,9 +29,6 @@ returns-2 c = rw (c .enum-told2 .given .1)
 
 returns-3 : tie.Need-returns-3
 returns-3 c = rw (c .before .enum-told3 .given .1)
-
-returns-4 : tie.Need-returns-4
-returns-4 c = rw (c .before .enum-told4 .given .1)
 
 pub lengthen-spec : {M : Type 1} → statement M
 lengthen-spec =
@@ -49,9 +40,6 @@ lengthen-spec =
     enum-told-2
     enum-told-3
     add-t6
-    enum-told-4
-    add-t7
     returns
     returns-2
-    returns-3
-    returns-4)
+    returns-3)

@@ -5,7 +5,7 @@ use mathlib.Core.Path.{_≡_, refl, ap, _∙_}
 use denote.Ref.{now}
 use lib.ListN.{length}
 use borrow.Author.Needs.{needs}
-use Rattle.table.specs.Memory.{channel, read}
+use Rattle.table.specs.Memory.{channel, tableOf}
 use Rattle.search.specs.Search.{statesOf}
 use Rattle.search.specs.Steps.{further}
 use Rattle.search.proofs.Filled.{filled-≤, filled-itself}
@@ -16,7 +16,7 @@ use Rattle.search.proofs.scan.Tie as tie
 abbrev Inv-loop : tie.InvT-loop
 Inv-loop s memory q list₀ later₀ most length′ last r₀ start₀ n₀ kept₀ list later r start n kept =
     (length list ≡ length list₀) × (length later ≡ length later₀)
-    × Scanned (statesOf (read (channel s memory))) q (length list₀) (length later₀) start r n kept list later
+    × Scanned (statesOf (tableOf (channel s memory))) q (length list₀) (length later₀) start r n kept list later
 
 abbrev μ-loop : tie.MeasureT-loop
 μ-loop s memory q list₀ later₀ most length′ last r₀ start₀ n₀ kept₀ list later r start n kept = q .hi + 1 - start
@@ -40,9 +40,9 @@ more : (c : tie.After-push2 Inv-loop μ-loop)
     → let p = at-push c in
     let h = at-loop p in
     let a = entry h .args in
-    Scanned (statesOf (read (channel (a .s) (now (a .memory))))) (a .q) (length (now (a .list))) (length (now (a .later)))
+    Scanned (statesOf (tableOf (channel (a .s) (now (a .memory))))) (a .q) (length (now (a .list))) (length (now (a .later)))
     (h .loop .start + 1) (at-lengthen p .lengthen .result) (p .push .result) (c .push2 .result) (p .push .last .0) (c .push2 .last .0)
-unfolding read
+unfolding tableOf
 more c =
     let p = at-push c in
     let x = at-lengthen p in

@@ -7,12 +7,12 @@ use denote.Ref.{now}
 use lib.ListN.{length}
 use borrow.Author.Needs.{needs}
 use Rattle.sound.specs.Sound.{Channel, sound}
-use Rattle.table.specs.Memory.{channel, read}
+use Rattle.table.specs.Memory.{channel, tableOf}
 use Rattle.search.specs.declared.Query.{Query}
 use Rattle.search.specs.Search.{statesOf}
 use Rattle.search.specs.Steps.{WellAsked}
 use Rattle.search.proofs.Listed.{length-listed}
-use Rattle.search.proofs.Asked.{well-asked, asked, refusal-unsound, refusal-asked, refused-gives, none-gives, some-gives}
+use Rattle.search.proofs.Asked.{well-asked, asked, searchRefusal-unsound, searchRefusal-asked, refused-gives, none-gives, some-gives}
 use Rattle.search.proofs.search.Statement.{statement}
 use Rattle.search.proofs.search.Tie as tie
 
@@ -73,7 +73,7 @@ returns c =
     let d = c .before .before in
     let a = at-is-sound d in
     let some = c .before .if2 .taken in
-    let refused = is-asked d ∙ refusal-asked (given a) (query a) (places a) (is-sound d) (λ z. some (is-asked d ∙ z)) in
+    let refused = is-asked d ∙ searchRefusal-asked (given a) (query a) (places a) (is-sound d) (λ z. some (is-asked d ∙ z)) in
     let g = refused-gives (given a) (query a) (places a) (d .ask .result) refused some in
     (c .refuse .ensures ∙ g .0, at-wipe a .wipe .ensures ∙ g .1)
 
@@ -107,7 +107,7 @@ cast-t18 c =
     let x = c .before .before .before .before in
     let a = at-is-sound (at-ask x) in
     let p = is-well-asked (at-ask x) (x .before .before .before .if2 .left) in
-    omega (arith, x .scan .ensures .0, length-listed (statesOf (read (given a))) (query a), p .few)
+    omega (arith, x .scan .ensures .0, length-listed (statesOf (tableOf (given a))) (query a), p .few)
 
 same-length-3 : tie.Need-same-length-3
 same-length-3 c = search needs
@@ -131,7 +131,7 @@ returns-4 : tie.Need-returns-4
 returns-4 c =
     let a = c .before .before in
     let h : sound (given a) ≡ false = sym (a .is-sound .ensures) ∙ c .before .if1 .left in
-    let g = refused-gives (given a) (query a) (places a) 11 (refusal-unsound (given a) (query a) (places a) h) (omega arith) in
+    let g = refused-gives (given a) (query a) (places a) 11 (searchRefusal-unsound (given a) (query a) (places a) h) (omega arith) in
     (c .refuse3 .ensures ∙ g .0, at-wipe a .wipe .ensures ∙ g .1)
 
 pub search-spec : {M : Type 1} → statement M

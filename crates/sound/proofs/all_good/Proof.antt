@@ -7,7 +7,7 @@ use borrow.Author.Tests.{not-true, not-false}
 use denote.Ref.{now}
 use lib.ListN.{take}
 use Rattle.octets.specs.Lists.{every}
-use Rattle.record.specs.Record.{view}
+use Rattle.record.specs.Record.{allRecords}
 use Rattle.series.specs.Series.{someBelow}
 use Rattle.sound.specs.Sound.{good}
 use Rattle.sound.specs.Steps.{areReciprocals}
@@ -16,7 +16,7 @@ use Rattle.sound.proofs.all_good.Statement.{statement}
 use Rattle.sound.proofs.all_good.Tie as tie
 
 abbrev Inv-loop : tie.InvT-loop
-Inv-loop memory n m1 time reciprocals held i₀ i = every (good m1 time) (take n (view memory)) ≡ every (good m1 time) (toCome i held memory)
+Inv-loop memory n m1 time reciprocals held i₀ i = every (good m1 time) (take n (allRecords memory)) ≡ every (good m1 time) (toCome i held memory)
 
 abbrev μ-loop : tie.MeasureT-loop
 μ-loop memory n m1 time reciprocals held i₀ i = held - i

@@ -3,7 +3,7 @@ use mathlib.Core.Path.{_≡_, refl}
 use mathlib.Core.Bool.{Bool, true, false, cond, not}
 use lib.Dec.{eqb}
 use borrow.Author.Needs.{needs}
-use Rattle.codec.specs.Parameters.{fits, parameterTests}
+use Rattle.codec.specs.Parameters.{m1Row, byRow, fits, parameterTests}
 use Rattle.sound.proofs.m1_fits.Statement.{statement}
 use Rattle.sound.proofs.m1_fits.Tie as tie
 
@@ -16,8 +16,8 @@ parameter-requires : tie.Need-parameter-requires
 parameter-requires c κs = search needs
 
 returns : tie.Need-returns
-unfolding parameterTests
-returns c = rw (c .parameter .ensures) (accepted (fits 1 (c .before .args .m1)))
+unfolding parameterTests byRow
+returns c = rw (c .parameter .ensures) (accepted (fits m1Row (c .before .args .m1)))
 
 pub m1-fits-spec : {M : Type 1} → statement M
 m1-fits-spec = tie.close (tie.spec parameter-requires returns)

@@ -11,9 +11,9 @@ use Rattle.octets.proofs.Refusals.{answer-refused, answer-accepted}
 use Rattle.record.specs.Record.{capacity}
 use Rattle.record.proofs.Packed.{packed-end}
 use Rattle.sound.specs.Sound.{Channel, records}
-use Rattle.sound.proofs.Sound.{Held, held}
+use Rattle.sound.proofs.Sound.{SoundParts, sound-parts}
 use Rattle.table.specs.Table.{same}
-use Rattle.table.specs.Memory.{channel, read}
+use Rattle.table.specs.Memory.{channel, tableOf}
 use Rattle.table.specs.Steps.{added, addedMemory}
 use Rattle.table.proofs.add.Statement.{statement}
 use Rattle.table.proofs.add.Tie as tie
@@ -27,8 +27,8 @@ module _ (c : tie.After-has-same) where
   abbrev given : Channel
   given = channel (entry .args .s) (now (entry .args .memory))
 
-  all-held : Held given
-  all-held = held given (entry .pre)
+  all-held : SoundParts given
+  all-held = sound-parts given (entry .pre)
 
 -- the record is not held already
 is-new : (c : tie.Else1) → has (same (entry (c .before) .args .x)) (records (given (c .before))) ≡ false
@@ -50,7 +50,7 @@ same-length : tie.Need-same-length
 same-length c = search needs
 
 returns : tie.Need-returns
-unfolding added addedMemory read records
+unfolding added addedMemory tableOf records
 returns c =
     let old = sym (c .before .before .has-same .ensures) ∙ c .before .if1 .taken in
     (c .refuse .ensures ∙ answer-refused _ _ (rw old) (omega arith), answer-refused _ _ {n = 16} (rw old) (omega arith))
@@ -65,7 +65,7 @@ same-length-2 : tie.Need-same-length-2
 same-length-2 c = search needs
 
 returns-2 : tie.Need-returns-2
-unfolding added addedMemory read records
+unfolding added addedMemory tableOf records
 returns-2 c =
     let at-if1 = c .before .before .before .before in
     let k = all-held (at-if1 .before) in
@@ -84,7 +84,7 @@ same-length-3 : tie.Need-same-length-3
 same-length-3 c = search needs
 
 returns-3 : tie.Need-returns-3
-unfolding added addedMemory read records
+unfolding added addedMemory tableOf records
 returns-3 c =
     let at-if2 = c .before .before .before .before .before in
     let at-if1 = at-if2 .before .before .before in

@@ -5,15 +5,15 @@ use native.Mathlib.Omega.{arith}
 use borrow.Author.Needs.{needs}
 use denote.Ref.{now}
 use lib.ListN.{length}
-use Rattle.record.specs.Record.{view}
-use Rattle.record.proofs.Views.{length-view, same-capacity}
+use Rattle.record.specs.Record.{allRecords}
+use Rattle.record.proofs.Images.{length-allRecords, same-capacity}
 use Rattle.table.specs.Steps.{stays}
 use Rattle.table.proofs.Loops.{kept-le, Sifted, sifted-next}
 use Rattle.table.proofs.compact.Statement.{statement}
 use Rattle.table.proofs.compact.Tie as tie
 
 abbrev Inv-loop : tie.InvT-loop
-Inv-loop memory₀ n rule held i₀ k₀ memory i k = (i ≤ held) × (length memory ≡ length memory₀) × Sifted (stays rule) (view memory₀) (view memory) i k
+Inv-loop memory₀ n rule held i₀ k₀ memory i k = (i ≤ held) × (length memory ≡ length memory₀) × Sifted (stays rule) (allRecords memory₀) (allRecords memory) i k
 
 abbrev μ-loop : tie.MeasureT-loop
 μ-loop memory₀ n rule held i₀ k₀ memory i k = held - i
@@ -29,7 +29,7 @@ sift-requires c κs =
     let h = c .before .before in
     let s = h .before .before .before .before in
     let m = now (s .args .memory) in
-    omega (arith, h .before .held-count .ensures .1, same-capacity (h .loop .memory) m (h .loop .inv .1), kept-le (stays (s .args .rule)) (view m) (h .loop .i))
+    omega (arith, h .before .held-count .ensures .1, same-capacity (h .loop .memory) m (h .loop .inv .1), kept-le (stays (s .args .rule)) (allRecords m) (h .loop .i))
 
 add-i : tie.Need-add-i Inv-loop μ-loop
 add-i c = omega arith
@@ -46,7 +46,7 @@ loop-again c =
       omega arith,
       sift .kept .0 ∙ h .loop .inv .1,
       rw (sift .ensures .0, sift .ensures .1)
-          (sifted-next (stays (s .args .rule)) (view m) (view (h .loop .memory)) (h .loop .i) (h .loop .k) (omega (arith, h .before .held-count .ensures .1, length-view m)) (h .loop .inv .2)),
+          (sifted-next (stays (s .args .rule)) (allRecords m) (allRecords (h .loop .memory)) (h .loop .i) (h .loop .k) (omega (arith, h .before .held-count .ensures .1, length-allRecords m)) (h .loop .inv .2)),
     )
 
 same-length : tie.Need-same-length Inv-loop μ-loop

@@ -7,14 +7,14 @@ use borrow.Author.Needs.{needs}
 use denote.Ref.{now}
 use lib.ListN.{take}
 use Rattle.octets.specs.Lists.{has}
-use Rattle.record.specs.Record.{view}
+use Rattle.record.specs.Record.{allRecords}
 use Rattle.table.specs.Table.{same}
 use Rattle.record.proofs.ToCome.{toCome, toCome-next, toCome-none}
 use Rattle.table.proofs.has_same.Statement.{statement}
 use Rattle.table.proofs.has_same.Tie as tie
 
 abbrev Inv-loop : tie.InvT-loop
-Inv-loop memory n x held i₀ i = has (same x) (take n (view memory)) ≡ has (same x) (toCome i held memory)
+Inv-loop memory n x held i₀ i = has (same x) (take n (allRecords memory)) ≡ has (same x) (toCome i held memory)
 
 abbrev μ-loop : tie.MeasureT-loop
 μ-loop memory n x held i₀ i = held - i
@@ -23,7 +23,7 @@ abbrev μ-loop : tie.MeasureT-loop
 asked : (c : tie.After-is-same Inv-loop μ-loop)
     → let h = c .before .before .before in
     let a = h .before .before .before .args in
-    has (same (a .x)) (take (a .n) (view (now (a .memory)))) ≡ (c .is-same .result || has (same (a .x)) (toCome (h .loop .i + 1) (h .before .held-count .result) (now (a .memory))))
+    has (same (a .x)) (take (a .n) (allRecords (now (a .memory)))) ≡ (c .is-same .result || has (same (a .x)) (toCome (h .loop .i + 1) (h .before .held-count .result) (now (a .memory))))
 asked c =
     let h = c .before .before .before in
     let n = h .before .held-count in

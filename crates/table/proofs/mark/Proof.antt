@@ -5,8 +5,8 @@ use denote.Ref.{now}
 use borrow.Author.Tests.{eq-eqb, ne-eqb}
 use lib.Seq.{set-getD}
 use borrow.Author.Needs.{needs}
-use Rattle.record.specs.Record.{view, blank}
-use Rattle.record.proofs.Views.{capacity-most}
+use Rattle.record.specs.Record.{allRecords, blank}
+use Rattle.record.proofs.Images.{capacity-most}
 use Rattle.table.proofs.mark.Statement.{statement}
 use Rattle.table.proofs.mark.Tie as tie
 
@@ -34,7 +34,7 @@ returns-2 : tie.Need-returns-2
 returns-2 c =
     let a = c .before .before .before .before .before .args in
     let load = c .before .before .load .ensures in
-    rw (← load, ne-eqb _ _ (c .if1 .left)) (refl, rw load (sym (set-getD (view (now (a .memory))) (a .i) blank)))
+    rw (← load, ne-eqb _ _ (c .if1 .left)) (refl, rw load (sym (set-getD (allRecords (now (a .memory))) (a .i) blank)))
 
 pub mark-spec : {M : Type 1} → statement M
 mark-spec =

@@ -6,9 +6,9 @@ use borrow.Author.Needs.{needs}
 use denote.Ref.{now}
 use lib.ListN.{length, take}
 use Rattle.octets.specs.Lists.{keep}
-use Rattle.record.specs.Record.{view}
-use Rattle.record.proofs.Views.{length-view, same-capacity}
-use Rattle.table.specs.Table.{of, setFar}
+use Rattle.record.specs.Record.{allRecords}
+use Rattle.record.proofs.Images.{length-allRecords, same-capacity}
+use Rattle.table.specs.Table.{ownedBy, setFar}
 use Rattle.table.specs.Steps.{mapped}
 use Rattle.table.proofs.Loops.{kept-le, count-next, mapped-at, mapped-next}
 use Rattle.table.proofs.mark_all.Statement.{statement}
@@ -16,7 +16,7 @@ use Rattle.table.proofs.mark_all.Tie as tie
 
 abbrev Inv-loop : tie.InvT-loop
 Inv-loop memory₀ n station far held i₀ k₀ memory i k =
-    (i ≤ held) × (length memory ≡ length memory₀) × (k ≡ length (keep (of station) (take i (view memory₀)))) × (view memory ≡ mapped (setFar station far) i (view memory₀))
+    (i ≤ held) × (length memory ≡ length memory₀) × (k ≡ length (keep (ownedBy station) (take i (allRecords memory₀)))) × (allRecords memory ≡ mapped (setFar station far) i (allRecords memory₀))
 
 abbrev μ-loop : tie.MeasureT-loop
 μ-loop memory₀ n station far held i₀ k₀ memory i k = held - i
@@ -33,7 +33,7 @@ mark-requires c κs =
     let h = c .before .before in
     let s = h .before .before .before .before in
     let m = now (s .args .memory) in
-    omega (arith, h .before .held-count .ensures .1, same-capacity (h .loop .memory) m (h .loop .inv .1), kept-le (of (s .args .station)) (view m) (h .loop .i))
+    omega (arith, h .before .held-count .ensures .1, same-capacity (h .loop .memory) m (h .loop .inv .1), kept-le (ownedBy (s .args .station)) (allRecords m) (h .loop .i))
 
 add-i : tie.Need-add-i Inv-loop μ-loop
 add-i c = omega arith
@@ -46,15 +46,15 @@ loop-again c =
     let h = c .before .before .before .before .before in
     let s = h .before .before .before .before in
     let m = now (s .args .memory) in
-    let vs = view m in
+    let vs = allRecords m in
     let f = setFar (s .args .station) (s .args .far) in
-    let w = view (h .loop .memory) in
+    let w = allRecords (h .loop .memory) in
     let i = h .loop .i in
-    let l : i < length vs = omega (arith, h .before .held-count .ensures .1, length-view m) in
+    let l : i < length vs = omega (arith, h .before .held-count .ensures .1, length-allRecords m) in
     let mark = c .before .before .mark in (
       omega arith,
       mark .kept .0 ∙ h .loop .inv .1,
-      mark .ensures .0 ∙ count-next (of (s .args .station)) vs w i (h .loop .k) l (h .loop .inv .2) (mapped-at f vs w i l (h .loop .inv .3)),
+      mark .ensures .0 ∙ count-next (ownedBy (s .args .station)) vs w i (h .loop .k) l (h .loop .inv .2) (mapped-at f vs w i l (h .loop .inv .3)),
       mark .ensures .1 ∙ mapped-next f vs w i l (h .loop .inv .3),
     )
 

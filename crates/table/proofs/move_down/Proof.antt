@@ -4,7 +4,7 @@ use native.Mathlib.Omega.{arith}
 use denote.Ref.{now}
 use lib.Seq.{set-getD}
 use borrow.Author.Needs.{needs}
-use Rattle.record.specs.Record.{view, blank}
+use Rattle.record.specs.Record.{allRecords, blank}
 use Rattle.table.proofs.move_down.Statement.{statement}
 use Rattle.table.proofs.move_down.Tie as tie
 
@@ -21,7 +21,7 @@ returns-2 : tie.Need-returns-2
 returns-2 c =
     let s = c .before .before in
     let e : s .args .k ≡ s .args .i = omega arith in
-    rw (e, s .pre .1) (sym (set-getD (view (now (s .args .memory))) (s .args .i) blank))
+    rw (e, s .pre .1) (sym (set-getD (allRecords (now (s .args .memory))) (s .args .i) blank))
 
 pub move-down-spec : {M : Type 1} → statement M
 move-down-spec = tie.close (tie.spec store-requires same-length returns returns-2)

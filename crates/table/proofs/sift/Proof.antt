@@ -3,7 +3,7 @@ use mathlib.Core.Path.{refl}
 use native.Mathlib.Omega.{arith}
 use denote.Ref.{now}
 use borrow.Author.Needs.{needs}
-use Rattle.record.proofs.Views.{capacity-most}
+use Rattle.record.proofs.Images.{capacity-most}
 use Rattle.table.proofs.sift.Statement.{statement}
 use Rattle.table.proofs.sift.Tie as tie
 

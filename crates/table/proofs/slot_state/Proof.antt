@@ -1,13 +1,14 @@
 -- `table::slot_state` meets its contract: each `return` rewrites by the tests that led there. Assumes nothing.
 use native.Mathlib.Omega.{arith}
-use mathlib.Core.Path.{_≡_, sym, _∙_}
+use mathlib.Core.Path.{_≡_, sym, ap, _∙_}
 use mathlib.Core.Bool.{true}
 use denote.Ref.{now}
 use borrow.Author.Tests.{lt-ltb, le-ltb}
 use borrow.Author.Needs.{needs}
 use Rattle.octets.proofs.Refusals.{answer-refused, answer-accepted}
 use Rattle.sound.specs.Sound.{Channel, sound}
-use Rattle.table.specs.Memory.{channel, read}
+use Rattle.table.specs.declared.SlotAnswer.the-variants.{Is}
+use Rattle.table.specs.Memory.{channel, tableOf}
 use Rattle.table.specs.Slots.{slotAnswer}
 use Rattle.table.proofs.slot_state.Statement.{statement}
 use Rattle.table.proofs.slot_state.Tie as tie
@@ -26,23 +27,23 @@ is-sound-requires : tie.Need-is-sound-requires
 is-sound-requires c κs = search needs
 
 returns : tie.Need-returns
-unfolding slotAnswer read
+unfolding slotAnswer tableOf
 returns c = answer-refused _ _ (rw (is-sound (c .before .before), lt-ltb _ _ (c .if2 .taken))) (omega arith)
 
 returns-2 : tie.Need-returns-2
-unfolding slotAnswer read
+unfolding slotAnswer tableOf
 returns-2 c = answer-refused _ _ (rw (is-sound (c .before .before .before), le-ltb _ _ (c .before .if2 .left), lt-ltb _ _ (c .if3 .taken))) (omega arith)
 
 judge-requires : tie.Need-judge-requires
 judge-requires c κs = search needs
 
 returns-3 : tie.Need-returns-3
-unfolding slotAnswer read
+unfolding slotAnswer tableOf
 returns-3 c =
-    c .judge .ensures ∙ answer-accepted _ _ (rw (is-sound (c .before .before .before .before), le-ltb _ _ (c .before .before .if2 .left), le-ltb _ _ (c .before .if3 .left)))
+    ap Is (c .judge .ensures) ∙ answer-accepted _ _ (rw (is-sound (c .before .before .before .before), le-ltb _ _ (c .before .before .if2 .left), le-ltb _ _ (c .before .if3 .left)))
 
 returns-4 : tie.Need-returns-4
-unfolding slotAnswer read
+unfolding slotAnswer tableOf
 returns-4 c = answer-refused _ _ (rw (sym (c .before .is-sound .ensures) ∙ c .if1 .left)) (omega arith)
 
 pub slot-state-spec : {M : Type 1} → statement M

@@ -9,7 +9,7 @@ use Rattle.octets.specs.Lists.{keep}
 use Rattle.record.specs.Record.{capacity}
 use Rattle.record.proofs.Packed.{packed-front}
 use Rattle.sound.specs.Sound.{Channel, records}
-use Rattle.sound.proofs.Sound.{Held, held}
+use Rattle.sound.proofs.Sound.{SoundParts, sound-parts}
 use Rattle.table.specs.Memory.{channel}
 use Rattle.table.specs.Steps.{stays}
 use Rattle.table.proofs.Memory.{length-kept}
@@ -25,8 +25,8 @@ module _ (c : tie.After-compact) where
   abbrev given : Channel
   given = channel (entry .args .s) (now (entry .args .memory))
 
-  all-held : Held given
-  all-held = held given (entry .pre)
+  all-held : SoundParts given
+  all-held = sound-parts given (entry .pre)
 
   -- no more stay than there were
   kept-most : c .compact .result ≤ given .count

@@ -42,7 +42,7 @@ use denote.Triple.Table.{entered, cited}
 use denote.Triple.Walked.{says, Stays, stay-none, walkOf, goes-none, Walks, ends-at, walked, walk-meets}
 use denote.Exit.{yes}
 use denote.Triple.Clauses.{ensured, lasts}
-use Rattle.record.specs.Record.{view}
+use Rattle.record.specs.Record.{allRecords}
 use Rattle.walk.specs.Walk.{ahead, placed, stepped}
 use Rattle.walk.specs.Steps.{reached}
 use Rattle.walk.specs.declared.View.{View}
@@ -80,7 +80,7 @@ Reach 𝓤 H A mem run = tripleOf 𝓤 H A reach.signature (reach.spec 𝓤 H A 
 
 -- what `reach` returns at a view's fields
 abbrev found : View → Reached
-found d = reached (without (d .next) (take (d .count) (view (now (d .memory))))) (d .next)
+found d = reached (without (d .next) (take (d .count) (allRecords (now (d .memory))))) (d .next)
 
 -- the step that is made of what `reach` returned
 abbrev made : View → Reached → Step

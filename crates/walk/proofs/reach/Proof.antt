@@ -4,16 +4,16 @@ use native.Mathlib.Omega.{arith}
 use lib.ListN.{length as len}
 use denote.Ref.{now}
 use borrow.Author.Needs.{needs}
-use Rattle.record.specs.Record.{view}
-use Rattle.record.proofs.Views.{length-view}
+use Rattle.record.specs.Record.{allRecords}
+use Rattle.record.proofs.Images.{length-allRecords}
 use Rattle.walk.proofs.Ahead.{reached-one, reached-none}
 use Rattle.walk.proofs.reach.Statement.{statement}
 use Rattle.walk.proofs.reach.Tie as tie
 
 module _ (c : tie.After-held-count) where
   -- the memory has room for them
-  fits : c .held-count .result ≤ len (view (now (c .before .before .args .memory)))
-  fits = omega (arith, c .held-count .ensures .1, length-view (now (c .before .before .args .memory)))
+  fits : c .held-count .result ≤ len (allRecords (now (c .before .before .args .memory)))
+  fits = omega (arith, c .held-count .ensures .1, length-allRecords (now (c .before .before .args .memory)))
 
 held-count-requires : tie.Need-held-count-requires
 held-count-requires c κs = search needs

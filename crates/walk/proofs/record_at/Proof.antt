@@ -48,7 +48,7 @@ use Rattle.walk.specs.Walk.{begun, placed, stepped, recordAt}
 use Rattle.walk.specs.declared.View.{View}
 use Rattle.walk.specs.declared.Begun.{Begun}
 use Rattle.walk.specs.declared.Step.{Step}
-use Rattle.walk.specs.declared.Answer.{Answer}
+use Rattle.walk.specs.declared.WalkAnswer.{WalkAnswer}
 use Rattle.walk.proofs.InOrder.{recordAt-walked}
 use Rattle.walk.proofs.View as T
 use Rattle.walk.proofs.View.Laws as T′
@@ -58,8 +58,8 @@ use Rattle.walk.proofs.Step as Z
 use Rattle.walk.proofs.Step.Laws as Z′
 use Rattle.walk.proofs.Handed as S
 use Rattle.walk.proofs.Handed.Laws as S′
-use Rattle.walk.proofs.Answer as R
-use Rattle.walk.proofs.Answer.Laws as R′
+use Rattle.walk.proofs.WalkAnswer as R
+use Rattle.walk.proofs.WalkAnswer.Laws as R′
 use Rattle.walk.proofs.begin as begin
 use Rattle.walk.proofs.begin.Symbol as begin-def
 use Rattle.walk.proofs.begin.Symbol.{name as #walk·begin}
@@ -186,7 +186,7 @@ module _ {M : Type 1} (𝓤 : URA M) (H : Heap 𝓤) (A : Atoms 𝓤) (W : Given
   goes-next d u = qed W (‵ (B (κ, tt) .own d (u ∷ [])) ∷ (‵ (flft κ q) ⊛ ‵ ftrue) ∷ []) ∵ nothing ! $ move ! (1 ∷ 0 ∷ []) $ fjoin ! $ move ! (1 ∷ 0 ∷ []) $ join ! $ frame ! $ done !
 
   -- the answer
-  abbrev ans : Begun → Step → Answer
+  abbrev ans : Begun → Step → WalkAnswer
   ans b h = record { refusal = b .refusal; handed = h .handed }
 
   -- its machine value

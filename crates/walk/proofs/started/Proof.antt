@@ -4,19 +4,19 @@ use mathlib.Core.Bool.{true, false}
 use borrow.Author.Needs.{needs}
 use Rattle.sound.specs.Sound.{Channel, sound}
 use Rattle.walk.specs.Steps.{started}
-use Rattle.walk.proofs.Ahead.{held-sound, held-unsound}
+use Rattle.walk.proofs.Ahead.{toHandOut-sound, toHandOut-unsound}
 use Rattle.walk.proofs.started.Statement.{statement}
 use Rattle.walk.proofs.started.Tie as tie
 
 -- on a sound table
 started-sound : (m : Channel) → sound m ≡ true → record { refusal = 0; count = m .count } ≡ started m
 unfolding started
-started-sound m h = rw (held-sound m h, h)
+started-sound m h = rw (toHandOut-sound m h, h)
 
 -- on any other
 started-unsound : (m : Channel) → sound m ≡ false → record { refusal = 11; count = 0 } ≡ started m
 unfolding started
-started-unsound m h = rw (held-unsound m h, h)
+started-unsound m h = rw (toHandOut-unsound m h, h)
 
 is-sound-requires : tie.Need-is-sound-requires
 is-sound-requires c κs = search needs

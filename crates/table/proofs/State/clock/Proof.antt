@@ -8,7 +8,7 @@ use borrow.Author.Needs.{needs}
 use Rattle.record.specs.declared.Rec.{Rec}
 use Rattle.sound.specs.Sound.{Channel, sound, lasts}
 use Rattle.table.specs.Table.{Call, clock}
-use Rattle.table.specs.Memory.{channel, read}
+use Rattle.table.specs.Memory.{channel, tableOf}
 use Rattle.table.specs.Steps.{stays}
 use Rattle.table.proofs.Calls.{unsound-gives, tested-gives, sweep-gives}
 use Rattle.table.proofs.State.clock.Statement.{statement}
@@ -37,7 +37,7 @@ same-length : tie.Need-same-length
 same-length c = search needs
 
 returns : tie.Need-returns
-unfolding read
+unfolding tableOf
 returns c =
     let t = c .before .before .before in
     let g = tested-gives (given (t .before)) (call (t .before)) (is-sound t) 12 (rw (lt-ltb _ _ (c .before .if2 .taken))) (omega arith) in
@@ -50,7 +50,7 @@ same-length-2 : tie.Need-same-length-2
 same-length-2 c = search needs
 
 returns-2 : tie.Need-returns-2
-unfolding read
+unfolding tableOf
 returns-2 c =
     let t = c .before .before .before .before in
     let g = tested-gives (given (t .before)) (call (t .before)) (is-sound t) 13 (rw (le-ltb _ _ (c .before .before .if2 .left), lt-ltb _ _ (c .before .if3 .taken))) (omega arith) in
@@ -63,7 +63,7 @@ same-length-3 : tie.Need-same-length-3
 same-length-3 c = search needs
 
 returns-3 : tie.Need-returns-3
-unfolding read stays
+unfolding tableOf stays
 returns-3 c =
     let at-if3 = c .before .before .before .before in
     let at-if2 = at-if3 .before in

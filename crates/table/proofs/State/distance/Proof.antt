@@ -8,12 +8,12 @@ use borrow.Author.Needs.{needs}
 use lib.ListN.{length-map}
 use Rattle.record.proofs.Packed.{packed-map}
 use Rattle.sound.specs.Sound.{Channel, records, sound}
-use Rattle.sound.proofs.Sound.{Held, held}
-use Rattle.table.specs.Table.{Call, distance, of, setFar}
-use Rattle.table.specs.Memory.{channel, read, write}
+use Rattle.sound.proofs.Sound.{SoundParts, sound-parts}
+use Rattle.table.specs.Table.{Call, distance, ownedBy, setFar}
+use Rattle.table.specs.Memory.{channel, tableOf, channelOf}
 use Rattle.table.specs.Steps.{mapped}
 use Rattle.table.proofs.Memory.{length-kept}
-use Rattle.table.proofs.Calls.{refusal-sound, unsound-gives, tested-gives, accepted-gives}
+use Rattle.table.proofs.Calls.{callRefusal-sound, unsound-gives, tested-gives, accepted-gives}
 use Rattle.table.proofs.State.distance.Statement.{statement}
 use Rattle.table.proofs.State.distance.Tie as tie
 
@@ -30,8 +30,8 @@ call c =
 is-sound : (c : tie.Then1) → sound (given (c .before)) ≡ true
 is-sound c = sym (c .before .is-sound .ensures) ∙ c .if1 .taken
 
-all-held : (c : tie.Then1) → Held (given (c .before))
-all-held c = held (given (c .before)) (is-sound c)
+all-held : (c : tie.Then1) → SoundParts (given (c .before))
+all-held c = sound-parts (given (c .before)) (is-sound c)
 
 -- ---- the needs
 
@@ -67,13 +67,13 @@ unfolding records
 cast-t16 c =
     let t = c .before .before .before .before .before .before .before .before .before in
     let k = all-held t in
-    omega (arith, c .before .before .mark-all .ensures .0, length-kept (given (t .before)) k (of (t .before .before .before .before .args .station)), k .room, k .capacity-most)
+    omega (arith, c .before .before .mark-all .ensures .0, length-kept (given (t .before)) k (ownedBy (t .before .before .before .before .args .station)), k .room, k .capacity-most)
 
 same-length-2 : tie.Need-same-length-2
 same-length-2 c = search needs
 
 returns-2 : tie.Need-returns-2
-unfolding read write records mapped
+unfolding tableOf channelOf records mapped
 returns-2 c =
     let at-far-bit = c .before .before .before .before .before in
     let at-if3 = at-far-bit .before in
@@ -83,7 +83,7 @@ returns-2 c =
     let m = given (t .before) in
     let k = all-held t in
     let fit = sym (at-if3 .before .limit-fits .ensures) ∙ at-if3 .if3 .taken in
-    let g = accepted-gives m (call (t .before)) (sym (refusal-sound m (call (t .before)) (is-sound t) ∙ rw (lt-leb _ _ (at-if2 .if2 .left), fit))) refl in
+    let g = accepted-gives m (call (t .before)) (sym (callRefusal-sound m (call (t .before)) (is-sound t) ∙ rw (lt-leb _ _ (at-if2 .if2 .left), fit))) refl in
     let mark = c .before .before .mark-all in
     let w = packed-map (m .memory) (m .count) (λ i. at-slice .slice-known .given i .fits) (k .whole-records) (k .room) (k .clear) (setFar (at-slice .before .args .station) (at-far-bit .far-bit .result)) (mark .last .0) (λ i. c .slice-known2 .given i .fits) (mark .kept .0) (mark .ensures .1) in
     record { result = rw (mark .ensures .0, ← g .result, length-map, k .counted); octets = w ∙ rw (at-far-bit .far-bit .ensures) (g .octets) }

@@ -4,7 +4,7 @@ use mathlib.Core.Bool.{true, false}
 use denote.Ref.{now}
 use borrow.Author.Needs.{needs}
 use Rattle.octets.specs.Refusals.{answer}
-use Rattle.codec.specs.Parameters as Parameters
+use Rattle.codec.specs.Parameters.{m1Row, fits}
 use Rattle.record.proofs.Packed.{clearAfter-none}
 use Rattle.sound.specs.Sound.{sizeFits}
 use Rattle.table.specs.Memory.{openRefusal, openLeaves, openReturned}
@@ -32,7 +32,7 @@ returns c =
     let at-m1-fits = at-if1 .before in
     let start = at-m1-fits .before .before in
     let m = now (start .args .memory) in
-    let f : Parameters.fits 1 (start .args .m1) ≡ true = sym (at-m1-fits .m1-fits .ensures) ∙ at-if1 .if1 .taken in
+    let f : fits m1Row (start .args .m1) ≡ true = sym (at-m1-fits .m1-fits .ensures) ∙ at-if1 .if1 .taken in
     let z : sizeFits m ≡ true = sym (at-size-fits .size-fits .ensures) ∙ at-if2 .if2 .taken in
     record { result = rw (f, z); octets = c .before .before .clear .ensures ∙ rw (f, z, clearAfter-none m) }
 
@@ -48,7 +48,7 @@ returns-2 c =
     let at-if1 = c .before .before .before .before in
     let at-m1-fits = at-if1 .before in
     let start = at-m1-fits .before .before in
-    let f : Parameters.fits 1 (start .args .m1) ≡ true = sym (at-m1-fits .m1-fits .ensures) ∙ at-if1 .if1 .taken in
+    let f : fits m1Row (start .args .m1) ≡ true = sym (at-m1-fits .m1-fits .ensures) ∙ at-if1 .if1 .taken in
     let z : sizeFits (now (start .args .memory)) ≡ false = sym (c .before .before .size-fits .ensures) ∙ c .before .if2 .left in
     record { result = c .refuse .ensures ∙ rw (f, z); octets = rw (f, z) }
 
@@ -59,7 +59,7 @@ returns-3 : tie.Need-returns-3
 unfolding openRefusal openLeaves openReturned answer
 returns-3 c =
     let start = c .before .before .before .before in
-    let f : Parameters.fits 1 (start .args .m1) ≡ false = sym (c .before .before .m1-fits .ensures) ∙ c .before .if1 .left in
+    let f : fits m1Row (start .args .m1) ≡ false = sym (c .before .before .m1-fits .ensures) ∙ c .before .if1 .left in
     record { result = c .refuse2 .ensures ∙ rw f; octets = rw f }
 
 pub open-spec : {M : Type 1} → statement M

@@ -6,7 +6,7 @@ use denote.Ref.{now}
 use borrow.Author.Needs.{needs}
 use Rattle.octets.specs.Refusals.{firstOf}
 use Rattle.sound.specs.Sound.{Channel, sound}
-use Rattle.sound.proofs.Sound.{held}
+use Rattle.sound.proofs.Sound.{sound-parts}
 use Rattle.table.specs.declared.Request.{Request}
 use Rattle.table.specs.Table.{reserve, requestTests}
 use Rattle.table.specs.Memory.{channel}
@@ -48,7 +48,7 @@ add-t12 : tie.Need-add-t12
 add-t12 c =
     let at-if2 = c .before .before .before in
     let t = at-if2 .before .before in
-    omega (arith, in-range at-if2 .bs-most, held (given (t .before)) (is-sound t) .now-most)
+    omega (arith, in-range at-if2 .bs-most, sound-parts (given (t .before)) (is-sound t) .now-most)
 
 cast-t13 : tie.Need-cast-t13
 cast-t13 c = omega (arith, in-range (c .before .before .before .before) .rate-most)
