@@ -1,17 +1,14 @@
 -- No refusal is above the largest, so each fits behind 2,000,000,000; and what a method returned, as one number. Assumes nothing.
 use Prim.Native.Nat.{ℕ, _%_, _≤_}
 use mathlib.Core.Path.{_≡_, refl, ap}
-use mathlib.Core.Bool.{Bool, true, false, cond, not, true≢false}
+use mathlib.Core.Bool.{false, not, true≢false}
 use mathlib.Core.List.{List, [], _∷_}
 use lib.ListN.{getD}
-use Rattle.octets.specs.Lists.{every}
 use Rattle.octets.specs.Refusals.{firstOf, outside}
 use Rattle.octets.proofs.Refusals.{firstOf-most, answer-says}
 use Rattle.codec.specs.declared.Lookup.{Lookup}
 use Rattle.codec.specs.Rates.{rateTests, rateLookup, refusedLookup}
-use Rattle.codec.specs.Parameters.{m1Row, fits}
-use Rattle.codec.specs.Parameters.{parameterTests}
-use Rattle.record.specs.declared.Rec.{Rec}
+use Rattle.codec.specs.Parameters.{m1Row, fits, parameterTests}
 use Rattle.sound.specs.Sound.{Channel, records, sizeFits, sound}
 use Rattle.table.specs.declared.SlotAnswer.{SlotAnswer}
 use Rattle.table.specs.declared.SlotAnswer.the-variants.{Is, Refused}
