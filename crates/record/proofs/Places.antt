@@ -128,7 +128,7 @@ encode-at s r l =
       putAt-behind 1 s x₄ 0 (r .length) (omega arith),
       putAt-behind 1 s x₅ 0 (r .far) (omega arith),
     )
-    (sets-eq x₆ s 0 (omega arith) ∙ rw (drop-of-length-le s {i = 12} (omega arith)))
+    (sets-eq x₆ s 0 (omega arith) ∙ rw (drop-of-length-le s {i = size} (omega arith)))
 
 -- what a store of record i promises
 pub store-promised : (x m : List ℕ) (i : ℕ) (r : Rec) → FitRec r → i < capacity m → x ≡ take (i * size) m ++ (encode r ++ drop (i * size + size) m)

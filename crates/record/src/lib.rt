@@ -1,9 +1,9 @@
 // Records in lent memory, 12 octets each. Nothing above this crate knows how they lie there.
 ghost use mathlib.Core.Path.{_≡_};
-ghost use Prim.Native.Nat.{_+_, _*_, _≤_, min};
+ghost use Prim.Native.Nat.{_<_, _≤_, min};
 ghost use lib.ListN.{length, getD, set, take};
 ghost use Rattle.octets.specs.Octets.{zeros};
-ghost use Rattle.record.specs.Record.{encode, decode, blank, whole, capacity, rest, clearAfter, allRecords, stored};
+ghost use Rattle.record.specs.Record.{size, encode, decode, blank, whole, capacity, rest, clearAfter, allRecords, stored};
 ghost use Rattle.record.specs.Claims.{Claims};
 
 // The octets of a record.
@@ -22,7 +22,7 @@ pub struct Rec {
 
 // The record that the octets of one say.
 fn decoded(s: &[u8]) -> Rec
-    requires { ⌜ length (now s) ≡ 12 ⌝ }
+    requires { ⌜ length (now s) ≡ size ⌝ }
     ensures { λ r. ⌜ r ≡ decode (now (s .entry)) ⌝ }
 {
     Rec {
@@ -37,7 +37,7 @@ fn decoded(s: &[u8]) -> Rec
 
 // Writes r over the octets of one record.
 fn encode_over(s: &mut [u8], r: Rec)
-    requires { ⌜ length (now s) ≡ 12 ⌝ }
+    requires { ⌜ length (now s) ≡ size ⌝ }
     ensures { λ _. ⌜ now (s .exit) ≡ encode r ⌝ }
 {
     octets::put_number(s, 0, r.station);
@@ -50,7 +50,7 @@ fn encode_over(s: &mut [u8], r: Rec)
 
 // Record i of those that the memory has room for. Its octets are a part of the memory, of a length that the compiler knows.
 fn load_at(memory: &[u8], i: usize) -> Rec
-    requires { ⌜ i * 12 + 12 ≤ length (now memory) ⌝ }
+    requires { ⌜ i < capacity (now memory) ⌝ }
     ensures { λ r. ⌜ r ≡ getD (allRecords (now (memory .entry))) i blank ⌝ }
 {
     let a = i * SIZE;
@@ -60,7 +60,7 @@ fn load_at(memory: &[u8], i: usize) -> Rec
 
 // Writes r over record i of those that the memory has room for.
 fn store_at(memory: &mut [u8], i: usize, r: Rec)
-    requires { ⌜ i * 12 + 12 ≤ length (now memory) ⌝ }
+    requires { ⌜ i < capacity (now memory) ⌝ }
     ensures octets { λ _. ⌜ now (memory .exit) ≡ stored (now (memory .entry)) i r ⌝ }
     ensures records { λ _. ⌜ allRecords (now (memory .exit)) ≡ set (allRecords (now (memory .entry))) i r ⌝ }
 {

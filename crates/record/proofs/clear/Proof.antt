@@ -29,8 +29,8 @@ unfolding clearAfter size
 returns-2 c =
     let s = c .before .before in
     let m = now (s .args .memory) in
-    let z : length m - s .args .n * 12 ≡ 0 = omega arith in
-    rw (z, take-all (s .args .n * 12) m (omega arith), append-nil)
+    let z : length m - s .args .n * size ≡ 0 = omega arith in
+    rw (z, take-all (s .args .n * size) m (omega arith), append-nil)
 
 pub clear-spec : {M : Type 1} → statement M
 clear-spec = tie.close (tie.spec mul-clear-from clear-from-requires same-length returns returns-2)

@@ -1,7 +1,6 @@
 -- `record::decoded` meets its contract: each number stands at its place. Assumes nothing.
 use denote.Ref.{now}
 use borrow.Author.Needs.{needs}
-use Rattle.record.specs.Record.{size}
 use Rattle.record.proofs.Places.{decode-at}
 use Rattle.record.proofs.decoded.Statement.{statement}
 use Rattle.record.proofs.decoded.Tie as tie
@@ -25,7 +24,6 @@ octet-at-requires-4 : tie.Need-octet-at-requires-4
 octet-at-requires-4 c κs = search needs
 
 returns : tie.Need-returns
-unfolding size
 returns c =
     let s = c .before .before .before .before .before .before .before in
     rw (

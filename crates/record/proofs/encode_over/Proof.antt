@@ -2,7 +2,6 @@
 use mathlib.Core.Path.{_∙_}
 use denote.Ref.{now}
 use borrow.Author.Needs.{needs}
-use Rattle.record.specs.Record.{size}
 use Rattle.record.proofs.Places.{encode-at}
 use Rattle.record.proofs.encode_over.Statement.{statement}
 use Rattle.record.proofs.encode_over.Tie as tie
@@ -29,7 +28,6 @@ same-length : tie.Need-same-length
 same-length c = search needs
 
 returns : tie.Need-returns
-unfolding size
 returns c =
     let at-far = c .before .before in
     let at-length = at-far .before .before .before .before in

@@ -22,7 +22,7 @@ returns-2 : tie.Need-returns-2
 unfolding rest size
 returns-2 c =
     let s = c .before .before in
-    rw (drop-of-length-le (now (s .args .memory)) {i = s .args .n * 12} (omega arith))
+    rw (drop-of-length-le (now (s .args .memory)) {i = s .args .n * size} (omega arith))
 
 pub is-clear-spec : {M : Type 1} → statement M
 is-clear-spec = tie.close (tie.spec mul-zero-from zero-from-requires returns returns-2)

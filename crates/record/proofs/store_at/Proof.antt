@@ -10,21 +10,27 @@ use Rattle.record.proofs.store_at.Statement.{statement}
 use Rattle.record.proofs.store_at.Tie as tie
 
 mul-a : tie.Need-mul-a
+unfolding capacity size
 mul-a c = search needs
 
 add-e : tie.Need-add-e
+unfolding capacity size
 add-e c = search needs
 
 sub-encode-over : tie.Need-sub-encode-over
+unfolding capacity size
 sub-encode-over c = search needs
 
 part-encode-over-start : tie.Need-part-encode-over-start
+unfolding capacity size
 part-encode-over-start c = search needs
 
 part-encode-over-end : tie.Need-part-encode-over-end
+unfolding capacity size
 part-encode-over-end c = search needs
 
 encode-over-requires : tie.Need-encode-over-requires
+unfolding capacity size
 encode-over-requires c κs = search needs
 
 same-length : tie.Need-same-length
@@ -37,9 +43,8 @@ returns c =
     let m = now (s .args .memory) in
     let i = s .args .i in
     let r = s .args .r in
-    let k : i < capacity m = unfold capacity in omega arith in
     let h : FitRec r = omega (arith, s .good) in
-    store-promised _ m i r h k (rw (c .before .before .encode-over .ensures, post-is (i * 12) (i * 12 + 12) m (omega arith)))
+    store-promised _ m i r h (s .pre) (rw (c .before .before .encode-over .ensures, post-is (i * size) (i * size + size) m (omega arith)))
 
 pub store-at-spec : {M : Type 1} → statement M
 store-at-spec =
