@@ -1,5 +1,5 @@
 -- `record::store_at` meets its contract: the octets from the place of record i on are written over. Assumes nothing.
-use Prim.Native.Nat.{_+_, _*_, _<_}
+use Prim.Native.Nat.{_+_, _*_}
 use native.Mathlib.Omega.{arith}
 use denote.Ref.{now}
 use borrow.Rule.Slice.PartMut.{post-is}
