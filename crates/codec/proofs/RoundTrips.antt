@@ -6,7 +6,7 @@ use native.Mathlib.Omega.{arith}
 use native.Mathlib.Nat.{div-div-eq-div-mul, div-one}
 use Rattle.octets.specs.Octets.{AreOctets}
 use Rattle.octets.specs.Refusals.{firstOf}
-use Rattle.octets.proofs.Complement.{signed-twos, twos-signed}
+use Rattle.octets.proofs.Complement.{signedOf-twosOf, twosOf-signedOf}
 use Rattle.octets.proofs.Refusals.{answer-accepted}
 use Rattle.codec.specs.declared.Block.{Block}
 use Rattle.codec.specs.declared.Reading.{Reading}
@@ -33,7 +33,7 @@ same-fields b r =
     let blg-same : bits 8 4 (b .blg * 8 + bits 27 25 (b .d)) ≡ b .blg = omega arith in
     let br-same : bits 4 1 (b .br) ≡ b .br = omega arith in
     let bt-same : bits 2 1 (16 + b .bt) ≡ b .bt = omega arith in
-    rw (d-high, d-bits (b .d) (r .d-low), blg-same, br-same, bt-same, signed-twos (b .bo) (r .bo-in))
+    rw (d-high, d-bits (b .d) (r .d-low), blg-same, br-same, bt-same, signedOf-twosOf (b .bo) (r .bo-in))
 
 -- so a block that was written is read back
 pub written-is-read : WrittenIsRead
@@ -70,7 +70,7 @@ module _ (s : List ℕ) (are : AreOctets s) where
       let high : d / 16777216 ≡ bits 3 1 (octet 4 s) = omega arith in
       let e4 : bits 8 4 (octet 4 s) * 8 + bits 27 25 d ≡ octet 4 s = rw high (octet-bits (octet 4 s) b4) in
       let e9 : 16 + bits 2 1 (octet 9 s) ≡ bits 8 4 (octet 9 s) * 8 + bits 2 1 (octet 9 s) = omega arith in
-      rw (e1, e2, e3, e4, e9, twos-signed (octet 8 s) (are 7))
+      rw (e1, e2, e3, e4, e9, twosOf-signedOf (octet 8 s) (are 7))
 
 -- so octets that were read are written back
 pub read-is-written : ReadIsWritten

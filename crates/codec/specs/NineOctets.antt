@@ -54,14 +54,15 @@ octetsOf b =
 abbrev pub badCode : ℕ → Bool
 badCode br = eqb br 7 || leb 14 br
 
--- what reading and writing are both refused for: first 3, 4, 5
+-- the code, roff and bs: 3, 4, 5
 abbrev pub rangeTests : Block → List (ℕ × Bool)
 rangeTests b = (3, badCode (b .br)) ∷ (4, outside 2 255 (b .roff)) ∷ (5, outside 2 255 (b .bs)) ∷ []
 
--- and then 6
+-- bo: 6
 abbrev pub offsetTests : Block → List (ℕ × Bool)
 offsetTests b = (6, beyond127 (b .bo)) ∷ []
 
+-- what reading and writing are both refused for: 3, 4, 5, 6
 unfoldable pub fieldTests : Block → List (ℕ × Bool)
 fieldTests b = rangeTests b ++ offsetTests b
 

@@ -11,7 +11,7 @@ use lib.IntN.{ℤ, pos, negsuc}
 use lib.ListN.{length, length-append}
 use Rattle.octets.specs.Complement.{beyond127}
 use Rattle.octets.specs.Octets.{AreOctets}
-use Rattle.octets.proofs.Complement.{offset-small}
+use Rattle.octets.proofs.Complement.{within127}
 use Rattle.octets.proofs.Refusals.{answer-accepted, answer-refused}
 use Rattle.codec.specs.declared.Block.{Block}
 use Rattle.codec.specs.Steps.{Fitting}
@@ -45,8 +45,8 @@ firstLines-next n s = rw add-one
 -- bo has at most four characters
 signedDecimal-short : (z : ℤ) → beyond127 z ≡ false → length (signedDecimal z) ≤ 4
 unfolding signedDecimal
-signedDecimal-short (pos n) h = omega (arith, length-decimal 2 n (omega (arith, offset-small (pos n) h)))
-signedDecimal-short (negsuc n) h = omega (arith, length-decimal 2 (suc n) (omega (arith, offset-small (negsuc n) h)))
+signedDecimal-short (pos n) h = omega (arith, length-decimal 2 n (omega (arith, within127 (pos n) h)))
+signedDecimal-short (negsuc n) h = omega (arith, length-decimal 2 (suc n) (omega (arith, within127 (negsuc n) h)))
 
 -- the line of fields that fit is no longer than `longest`
 blockLine-short : (b : Block) → Fitting b → length (blockLine b) ≤ longest

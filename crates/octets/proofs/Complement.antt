@@ -13,26 +13,26 @@ use borrow.Author.Tests.{ltb-true, ltb-false, lt-ltb, le-ltb, eqb-true, eqb-fals
 use Rattle.octets.specs.Complement.{signedOf, twosOf, beyond127}
 use Rattle.octets.proofs.Refusals.{or-eq-false}
 
--- ---- an offset that is not bad
+-- ---- within -127..127
 
 -- what is not outside -127..127 has a size of at most 127
-pub offset-small : (z : ℤ) → beyond127 z ≡ false → natAbs z ≤ 127
-offset-small (pos n) h = ltb-false 127 n h
-offset-small (negsuc n) h = omega (arith, ltb-false 126 n (or-eq-false (ltb 126 n) false h .0))
+pub within127 : (z : ℤ) → beyond127 z ≡ false → natAbs z ≤ 127
+within127 (pos n) h = ltb-false 127 n h
+within127 (negsuc n) h = omega (arith, ltb-false 126 n (or-eq-false (ltb 126 n) false h .0))
 
 -- ---- there and back
 
 -- a number comes back from its octet
-pub signed-twos : (z : ℤ) → beyond127 z ≡ false → signedOf (twosOf z) ≡ z
-signed-twos (pos n) h = let l = offset-small (pos n) h in simp (lt-ltb n 128 (omega arith))
-signed-twos (negsuc n) h =
-    let l = offset-small (negsuc n) h in
+pub signedOf-twosOf : (z : ℤ) → beyond127 z ≡ false → signedOf (twosOf z) ≡ z
+signedOf-twosOf (pos n) h = let l = within127 (pos n) h in simp (lt-ltb n 128 (omega arith))
+signedOf-twosOf (negsuc n) h =
+    let l = within127 (negsuc n) h in
     let e : 256 - suc (255 - n) ≡ n = omega arith in
     simp (le-ltb (255 - n) 128 (omega arith), lt-ltb (255 - n) 256 (omega arith), e)
 
 -- an octet comes back from its number
-pub twos-signed : (n : ℕ) → n < 256 → twosOf (signedOf n) ≡ n
-twos-signed n h = go (ltb n 128) refl
+pub twosOf-signedOf : (n : ℕ) → n < 256 → twosOf (signedOf n) ≡ n
+twosOf-signedOf n h = go (ltb n 128) refl
   where
     go : (t : Bool) → t ≡ ltb n 128 → twosOf (signedOf n) ≡ n
     go true e = simp (← e)
@@ -42,8 +42,8 @@ twos-signed n h = go (ltb n 128) refl
         simp (← e, lt-ltb n 256 h, k)
 
 -- of the octets, only 128 says a number outside -127..127
-pub octet-offset : (n : ℕ) → n < 256 → beyond127 (signedOf n) ≡ eqb n 128
-octet-offset n h = go (ltb n 128) (eqb n 128) refl refl
+pub beyond127-signedOf : (n : ℕ) → n < 256 → beyond127 (signedOf n) ≡ eqb n 128
+beyond127-signedOf n h = go (ltb n 128) (eqb n 128) refl refl
   where
     go : (t u : Bool) → t ≡ ltb n 128 → u ≡ eqb n 128 → beyond127 (signedOf n) ≡ u
     go true u e f =
@@ -61,14 +61,14 @@ octet-offset n h = go (ltb n 128) (eqb n 128) refl refl
 
 -- it is an octet
 pub twos-octet : (z : ℤ) → beyond127 z ≡ false → Fits w8 (twosOf z)
-twos-octet (pos n) h = record { fits = omega (arith, offset-small (pos n) h) }
+twos-octet (pos n) h = record { fits = omega (arith, within127 (pos n) h) }
 twos-octet (negsuc n) h = record { fits = omega arith }
 
 -- below 0, a number and 256 make its octet's number
 pub twos-below : (z : ℤ) → beyond127 z ≡ false → ltZ z (pos 0) ≡ true → z +ℤ pos 256 ≡ pos (twosOf z)
 twos-below (pos n) h l = let none : n < 0 = ltb-true n 0 l in absurd (omega arith)
 twos-below (negsuc n) h l =
-    let k = offset-small (negsuc n) h in
+    let k = within127 (negsuc n) h in
     let e : 256 - suc n ≡ 255 - n = omega arith in
     simp (le-ltb 256 (suc n) (omega arith), e)
 

@@ -16,4 +16,4 @@ twosOf (negsuc n) = 255 - n
 
 -- outside -127..127
 abbrev pub beyond127 : ℤ → Bool
-beyond127 bo = ltZ bo (negsuc 126) || ltZ (pos 127) bo
+beyond127 z = ltZ z (negsuc 126) || ltZ (pos 127) z

@@ -10,7 +10,7 @@ use borrow.Author.Tests.{eq-eqb, ne-eqb}
 use lib.Dec.{eqb}
 use Rattle.octets.specs.Complement.{beyond127}
 use Rattle.octets.specs.Refusals.{firstOf, outside}
-use Rattle.octets.proofs.Complement.{octet-offset}
+use Rattle.octets.proofs.Complement.{beyond127-signedOf}
 use Rattle.octets.proofs.Refusals.{answer-refused, answer-accepted}
 use Rattle.codec.specs.declared.Block.{Block}
 use Rattle.codec.specs.NineOctets.{octet, blockOf, badCode, fieldTests, readTests}
@@ -44,7 +44,7 @@ good-bs c = octet-inside _ (c .if5 .left) (omega (arith, c .before .shared-slice
 
 -- of the octets of an offset, only 128 is bad
 offset : (c : tie.After-shared-slice-known6) → beyond127 (block (c .before .before .before .before .before .before .before .before .before) .bo) ≡ eqb (octet 8 (octets (c .before .before .before .before .before .before .before .before .before))) 128
-offset c = octet-offset (octet 8 (octets (c .before .before .before .before .before .before .before .before .before))) (omega (arith, c .shared-slice-known6 .given 7))
+offset c = beyond127-signedOf (octet 8 (octets (c .before .before .before .before .before .before .before .before .before))) (omega (arith, c .shared-slice-known6 .given 7))
 
 refused-reading-requires : tie.Need-refused-reading-requires
 refused-reading-requires c κs = search needs

@@ -1,6 +1,6 @@
 -- `octets::claims` promises what the laws prove. Assumes nothing.
 use Rattle.octets.proofs.Octets.{number-little, little-number, length-little, are-octets-little, number-bound, numberAt-putAt}
-use Rattle.octets.proofs.Complement.{signed-twos, twos-signed, octet-offset}
+use Rattle.octets.proofs.Complement.{signedOf-twosOf, twosOf-signedOf, beyond127-signedOf}
 use Rattle.octets.proofs.claims.Statement.{statement}
 use Rattle.octets.proofs.claims.Tie as tie
 
@@ -13,9 +13,9 @@ returns c =
       written-octets = are-octets-little;
       read-bound = number-bound;
       put-is-read = numberAt-putAt;
-      twos-is-signed = signed-twos;
-      signed-is-twos = twos-signed;
-      only-128 = octet-offset;
+      twos-is-signed = signedOf-twosOf;
+      signed-is-twos = twosOf-signedOf;
+      only-128 = beyond127-signedOf;
     }
 
 pub claims-spec : {M : Type 1} → statement M
