@@ -24,18 +24,18 @@ use Rattle.trace.specs.Claims.{WipedWithoutTrace, RealCalls, SoundOpened
 use Rattle.trace.proofs.Machine.{runs-good, runs-refined, transcript-refined, made-runs, runs-untraced, transcript-untraced}
 use Rattle.trace.proofs.Kept.{all-in-range, sound-changed}
 use Rattle.trace.proofs.Written.{sound-channelOf, sound-tableOf, refined, empty, sound-empty, opened-channelOf}
-use Rattle.trace.proofs.Simulation.{stays, left, Alike, untraced}
+use Rattle.trace.proofs.Simulation.{ofOthers, left, Alike, untraced}
 
 -- ---- the wipe at the end
 
 -- a sound table has no record of a station of 2 ^ 27 or more, whose wipe is refused
-none-beyond : (A : ℕ) → leb (2 ^ 27) A ≡ true → (r : Rec) → inRange r ≡ true → stays (only A) r ≡ true
+none-beyond : (A : ℕ) → leb (2 ^ 27) A ≡ true → (r : Rec) → inRange r ≡ true → ofOthers (only A) r ≡ true
 none-beyond A e r h = rw (ne-eqb (r .station) A (omega (arith, ranges r h .station, leb-true (2 ^ 27) A e)))
 
 -- so taking its records out changes nothing
 left-beyond : (t : Table) (A : ℕ) → Sound t → leb (2 ^ 27) A ≡ true → left (only A) t ≡ t
 left-beyond t A k e =
-    ap (withRecords t) (keep-every (stays (only A)) (t .records) (every-sub inRange (stays (only A)) (none-beyond A e) (t .records) (all-in-range t k)))
+    ap (withRecords t) (keep-every (ofOthers (only A)) (t .records) (every-sub inRange (ofOthers (only A)) (none-beyond A e) (t .records) (all-in-range t k)))
 
 -- a wipe, accepted or refused, takes the station's records out
 leftOn-wipe : (t : Table) (A : ℕ) → Sound t → leftOn t (wipe A) ≡ left (only A) t

@@ -24,28 +24,28 @@ use Rattle.trace.proofs.Kept.{leftOn-look, sound-leftOn}
 
 module _ (gone : ℕ → Bool) where
   -- a record of a station that stays
-  abbrev pub stays : Rec → Bool
-  stays r = not (gone (r .station))
+  abbrev pub ofOthers : Rec → Bool
+  ofOthers r = not (gone (r .station))
 
   -- the table without the records of the stations that go
   abbrev pub left : Table → Table
-  left t = withRecords t (keep stays (t .records))
+  left t = withRecords t (keep ofOthers (t .records))
 
   -- a station that stays has records that stay
-  ownedBy-stays : (s : ℕ) → gone s ≡ false → (r : Rec) → ownedBy s r ≡ true → stays r ≡ true
-  ownedBy-stays s g r e = rw (eqb-true (r .station) s e, g)
+  ownedBy-ofOthers : (s : ℕ) → gone s ≡ false → (r : Rec) → ownedBy s r ≡ true → ofOthers r ≡ true
+  ownedBy-ofOthers s g r e = rw (eqb-true (r .station) s e, g)
 
   -- and so has a reservation of its own
-  same-stays : (a : Rec) → gone (a .station) ≡ false → (r : Rec) → same a r ≡ true → stays r ≡ true
+  same-ofOthers : (a : Rec) → gone (a .station) ≡ false → (r : Rec) → same a r ≡ true → ofOthers r ≡ true
   unfolding same
-  same-stays a g r e =
+  same-ofOthers a g r e =
       let p = simp and-eq-true-iff at e in
       let q : a .station ≡ r .station = search eqb-true in
       rw (← q, g)
 
   -- a record that stays is of no station that goes
-  stays-not-ownedBy : (s : ℕ) → gone s ≡ true → (r : Rec) → stays r ≡ true → ownedBy s r ≡ false
-  stays-not-ownedBy s g r e =
+  ofOthers-not-ownedBy : (s : ℕ) → gone s ≡ true → (r : Rec) → ofOthers r ≡ true → ownedBy s r ≡ false
+  ofOthers-not-ownedBy s g r e =
       ne-eqb (r .station) s λ q. true≢false (sym g ∙ ap gone (sym q) ∙ not-true (gone (r .station)) e)
 
   -- ---- a call of a station that goes: nothing of it is left
@@ -54,12 +54,12 @@ module _ (gone : ℕ → Bool) where
   gone-changed : (t : Table) (c : Call) → names gone c ≡ true → left (changed t c) ≡ left t
   gone-changed t (clock slot) g = absurd (false≢true g)
   gone-changed t (reserve q) g =
-      ap (withRecords t) (rw (keep-append stays (t .records) (newRecord (t .now) q ∷ []), g) (append-nil (keep stays (t .records))))
+      ap (withRecords t) (rw (keep-append ofOthers (t .records) (newRecord (t .now) q ∷ []), g) (append-nil (keep ofOthers (t .records))))
   gone-changed t (distance s d limit) g =
       let far = setFar s (farOctet (isFar d limit)) in
-      ap (withRecords t) (keep-map stays far (λ r. refl) (t .records) ∙ map-keep stays far (λ r e. rw (stays-not-ownedBy s g r e)) (t .records))
+      ap (withRecords t) (keep-map ofOthers far (λ r. refl) (t .records) ∙ map-keep ofOthers far (λ r e. rw (ofOthers-not-ownedBy s g r e)) (t .records))
   gone-changed t (wipe s) g =
-      ap (withRecords t) (keep-sub stays (λ r. not (ownedBy s r)) (λ r e. rw (stays-not-ownedBy s g r e)) (t .records))
+      ap (withRecords t) (keep-sub ofOthers (λ r. not (ownedBy s r)) (λ r e. rw (ofOthers-not-ownedBy s g r e)) (t .records))
   gone-changed t (look f) g = absurd (false≢true g)
 
   -- accepted or refused
@@ -72,18 +72,18 @@ module _ (gone : ℕ → Bool) where
   -- where it is accepted
   kept-changed : (t : Table) (c : Call) → names gone c ≡ false → changed (left t) c ≡ left (changed t c)
   kept-changed t (clock slot) g =
-      ap (λ rs. record { m1 = t .m1; now = slot; capacity = t .capacity; records = rs }) (keep-comm (lasts (t .m1) slot) stays (t .records))
-  kept-changed t (reserve q) g = ap (withRecords t) (rw (keep-append stays (t .records) (newRecord (t .now) q ∷ []), g))
+      ap (λ rs. record { m1 = t .m1; now = slot; capacity = t .capacity; records = rs }) (keep-comm (lasts (t .m1) slot) ofOthers (t .records))
+  kept-changed t (reserve q) g = ap (withRecords t) (rw (keep-append ofOthers (t .records) (newRecord (t .now) q ∷ []), g))
   kept-changed t (distance s d limit) g =
-      ap (withRecords t) (sym (keep-map stays (setFar s (farOctet (isFar d limit))) (λ r. refl) (t .records)))
-  kept-changed t (wipe s) g = ap (withRecords t) (keep-comm (λ r. not (ownedBy s r)) stays (t .records))
+      ap (withRecords t) (sym (keep-map ofOthers (setFar s (farOctet (isFar d limit))) (λ r. refl) (t .records)))
+  kept-changed t (wipe s) g = ap (withRecords t) (keep-comm (λ r. not (ownedBy s r)) ofOthers (t .records))
   kept-changed t (look f) g = refl
 
   -- fewer records leave room where there was some
   kept-room : (t : Table) → Sound t → eqb (len (t .records)) (t .capacity) ≡ false → eqb (len (left t .records)) (t .capacity) ≡ false
   kept-room t k e =
       ne-eqb (len (left t .records)) (t .capacity)
-      (omega (arith, length-keep stays (t .records), eqb-false (len (t .records)) (t .capacity) e, k .room))
+      (omega (arith, length-keep ofOthers (t .records), eqb-false (len (t .records)) (t .capacity) e, k .room))
 
   -- a reserve's tests but the last, which is 17
   abbrev early : Table → Request → List (ℕ × Bool)
@@ -91,7 +91,7 @@ module _ (gone : ℕ → Bool) where
 
   -- none of them depends on a record that goes
   early-left : (t : Table) (q : Request) → gone (q .station) ≡ false → early (left t) q ≡ early t q
-  early-left t q g = rw (has-keep (same (newRecord (t .now) q)) stays (same-stays (newRecord (t .now) q) g) (t .records))
+  early-left t q g = rw (has-keep (same (newRecord (t .now) q)) ofOthers (same-ofOthers (newRecord (t .now) q) g) (t .records))
 
   -- so a reserve gets the same refusal, unless it was refused because the table was full
   reserve-refusal : (t : Table) (q : Request) → Sound t → gone (q .station) ≡ false → othersHadRoom gone (reserve q, saidOn t (reserve q)) ≡ true
@@ -120,8 +120,8 @@ module _ (gone : ℕ → Bool) where
     unfolding saidOn
     kept-saidOn (clock slot) n r = absurd (false≢true n)
     kept-saidOn (reserve q) n r = rw (reserve-refusal t q k (not-true (gone (q .station)) n) (unfold saidOn in r))
-    kept-saidOn (distance s d limit) n r = rw (keep-sub (ownedBy s) stays (ownedBy-stays s (not-true (gone s) n)) (t .records))
-    kept-saidOn (wipe s) n r = rw (keep-sub (ownedBy s) stays (ownedBy-stays s (not-true (gone s) n)) (t .records))
+    kept-saidOn (distance s d limit) n r = rw (keep-sub (ownedBy s) ofOthers (ownedBy-ofOthers s (not-true (gone s) n)) (t .records))
+    kept-saidOn (wipe s) n r = rw (keep-sub (ownedBy s) ofOthers (ownedBy-ofOthers s (not-true (gone s) n)) (t .records))
     kept-saidOn (look f) n r = absurd (false≢true n)
 
   -- ---- two tables side by side
