@@ -1,4 +1,4 @@
--- `record::store` meets its contract: past the last record neither `put` nor `set` changes anything. Assumes nothing.
+-- `record::store` meets its contract: past the last record neither `stored` nor `set` changes anything. Assumes nothing.
 use mathlib.Core.Path.{sym}
 use native.Mathlib.Omega.{arith}
 use borrow.Author.Needs.{needs}
