@@ -30,7 +30,7 @@ module _ (c : tie.After-row) where
 
 returns : tie.Need-returns
 unfolding parameterTests
-returns c = simp (c .if1 .taken)
+returns c = rw (c .if1 .taken)
 
 row-requires : tie.Need-row-requires
 row-requires c κs = search needs
@@ -48,7 +48,7 @@ returns-2 : tie.Need-returns-2
 unfolding parameterTests fits
 returns-2 c =
     let x = c .before in
-    simp (x .before .if1 .left, follows x, rw (in-columns x) at (c .if2 .taken))
+    rw (x .before .if1 .left, follows x, rw (in-columns x) at (c .if2 .taken))
 
 sub-if3 : tie.Need-sub-if3
 sub-if3 c = outside-false _ _ _ (c .if2 .left) .0
@@ -60,13 +60,13 @@ returns-3 : tie.Need-returns-3
 unfolding parameterTests fits
 returns-3 c =
     let x = c .before .before in
-    simp (x .before .if1 .left, follows x, rw (in-columns x) at (c .before .if2 .left), ne-eqb _ _ (rw (in-columns x) at (c .if3 .taken)))
+    rw (x .before .if1 .left, follows x, rw (in-columns x) at (c .before .if2 .left), ne-eqb _ _ (rw (in-columns x) at (c .if3 .taken)))
 
 returns-4 : tie.Need-returns-4
 unfolding parameterTests fits
 returns-4 c =
     let x = c .before .before in
-    simp (x .before .if1 .left, follows x, rw (in-columns x) at (c .before .if2 .left), eq-eqb _ _ (rw (in-columns x) at (c .if3 .left)))
+    rw (x .before .if1 .left, follows x, rw (in-columns x) at (c .before .if2 .left), eq-eqb _ _ (rw (in-columns x) at (c .if3 .left)))
 
 pub parameter-spec : {M : Type 1} → statement M
 parameter-spec =

@@ -36,15 +36,15 @@ good-code c = ap badCode (sym (c .before .before .rate-code .ensures)) ∙ sym (
 
 -- and so is roff
 good-roff : (c : tie.Else4) → outside 2 255 (block (c .before .before .before .before .before .before) .roff) ≡ false
-good-roff c = octet-inside _ (c .if4 .left) (omega (arith, c .before .shared-slice-known4 .given 4))
+good-roff c = octet-inside _ (c .if4 .left) (c .before .shared-slice-known4 .given 4 .fits)
 
 -- and so is bs
 good-bs : (c : tie.Else5) → outside 2 255 (block (c .before .before .before .before .before .before .before .before) .bs) ≡ false
-good-bs c = octet-inside _ (c .if5 .left) (omega (arith, c .before .shared-slice-known5 .given 6))
+good-bs c = octet-inside _ (c .if5 .left) (c .before .shared-slice-known5 .given 6 .fits)
 
 -- of the octets of an offset, only 128 is bad
 offset : (c : tie.After-shared-slice-known6) → beyond127 (block (c .before .before .before .before .before .before .before .before .before) .bo) ≡ eqb (octet 8 (octets (c .before .before .before .before .before .before .before .before .before))) 128
-offset c = beyond127-signedOf (octet 8 (octets (c .before .before .before .before .before .before .before .before .before))) (omega (arith, c .shared-slice-known6 .given 7))
+offset c = beyond127-signedOf (octet 8 (octets (c .before .before .before .before .before .before .before .before .before))) (c .shared-slice-known6 .given 7 .fits)
 
 refused-reading-requires : tie.Need-refused-reading-requires
 refused-reading-requires c κs = search needs

@@ -1,9 +1,12 @@
 -- `codec::store` meets its contract: the octets are the definition's; the offset's bits stand for it. Assumes nothing.
+use mathlib.Core.Path.{_∙_, ap}
 use native.Mathlib.Nat.{div-one}
+use native.Mathlib.Omega.{arith}
 use mir.Syntax.{w32}
 use mir.Val.{SFits}
 use mir.Facts.{toZ-ofZ}
 use borrow.Author.Needs.{needs}
+use Rattle.octets.specs.Complement.{twosOf}
 use Rattle.codec.proofs.store.Statement.{statement}
 use Rattle.codec.proofs.store.Tie as tie
 
@@ -39,16 +42,18 @@ cast-t17 : tie.Need-cast-t17
 cast-t17 c = search needs
 
 twos-requires : tie.Need-twos-requires
-twos-requires c κs = search needs
+twos-requires c κs = rw (toZ-ofZ (bo-fits c)) (c .before .before .before .before .before .before .before .before .before .pre .bo-in)
 
 add-t19 : tie.Need-add-t19
-add-t19 c = search needs
+add-t19 c = record { fits = omega (arith, c .before .before .before .before .before .before .before .before .before .before .before .pre .bt-low) }
 
 cast-t20 : tie.Need-cast-t20
-cast-t20 c = search needs
+cast-t20 c = record { fits = omega (arith, c .before .before .before .before .before .before .before .before .before .before .before .pre .bt-low) }
 
 returns : tie.Need-returns
-returns c = rw (c .before .twos .ensures, toZ-ofZ (bo-fits (c .before .before)), div-one)
+returns c =
+    let bo = c .before .twos .ensures ∙ ap twosOf (toZ-ofZ (bo-fits (c .before .before))) in
+    rw (bo, div-one (c .before .before .before .before .before .before .before .before .before .before .before .args .b .d))
 
 pub store-spec : {M : Type 1} → statement M
 store-spec =
