@@ -26,7 +26,14 @@ bo-fits c = record { sfits = c .struct-told .given .1 .1 .1 .1 .1 .0 .1 }
 abbrev signed-field : ℤ → List ℕ
 signed-field z = signedDecimal z ++ (32 ∷ [])
 
--- there is room for the seven texts together
+-- a block's line is these seven texts
+seven : (b : Block)
+    → blockLine b
+    ≡ field (b .d) 32 ++ field (b .blg) 32 ++ field (b .roff) 32 ++ field (b .br) 32 ++ field (b .bs) 32 ++ signed-field (b .bo) ++ field (b .bt) 10
+unfolding blockLine
+seven b = simp append-assoc
+
+-- there is room for them together
 all-fit : (c : tie.Start) → (b : Block) → b ≡ c .args .b
     → c .args .at
     + length (field (b .d) 32)
@@ -73,7 +80,6 @@ same-length : tie.Need-same-length
 same-length c = search needs
 
 returns : tie.Need-returns
-unfolding blockLine
 returns c =
     let c7 = c .before .before in
     let c6 = c7 .before .before .before .before in
@@ -82,13 +88,12 @@ returns c =
     let c3 = c4 .before .before .before .before in
     let c2 = c3 .before .before .before .before in
     let c1 = c2 .before .before .before .before in
-    let w6 = and-then (rw (toZ-ofZ (bo-fits (c6 .before))) at (c6 .put-signed .ensures)) (c7 .put-field6 .ensures) in
-    let w5 = and-then (c5 .put-field5 .ensures) w6 in
-    let w4 = and-then (c4 .put-field4 .ensures) w5 in
-    let w3 = and-then (c3 .put-field3 .ensures) w4 in
-    let w2 = and-then (c2 .put-field2 .ensures) w3 in
-    let w1 = and-then (c1 .put-field .ensures) w2 in
-    simp append-assoc (simp append-assoc at w1)
+    let w2 = and-then (c1 .put-field .ensures) (c2 .put-field2 .ensures) in
+    let w3 = and-then w2 (c3 .put-field3 .ensures) in
+    let w4 = and-then w3 (c4 .put-field4 .ensures) in
+    let w5 = and-then w4 (c5 .put-field5 .ensures) in
+    let w6 = and-then w5 (rw (toZ-ofZ (bo-fits (c6 .before))) at (c6 .put-signed .ensures)) in
+    rw seven (and-then w6 (c7 .put-field6 .ensures))
 
 pub put-fields-spec : {M : Type 1} → statement M
 put-fields-spec =
