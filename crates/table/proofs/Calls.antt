@@ -3,20 +3,23 @@ use Prim.Native.Nat.{ℕ, zero, suc, _+_, _-_, _≤_}
 use native.Mathlib.Omega.{arith}
 use mathlib.Core.Path.{_≡_, refl, ap, _∙_, sym}
 use mathlib.Core.Bool.{Bool, true, false, not, true≢false}
-use mathlib.Core.List.{[], _∷_, _++_}
+use mathlib.Core.List.{List, [], _∷_, _++_, map}
 use lib.Dec.{ltb}
+use lib.Ieee.{Float}
 use borrow.Author.Tests.{ltb-false}
-use lib.ListN.{length, length-append}
+use lib.ListN.{length, length-append, length-map}
 use Rattle.octets.specs.Lists.{keep}
 use Rattle.octets.specs.Refusals.{firstOf, outside}
 use Rattle.octets.proofs.Lists.{length-keep-not}
 use Rattle.octets.proofs.Refusals.{firstOf-append, firstOf-stop, firstOf-zero, outside-false, or-eq-false, answer-refused, answer-accepted}
+use Rattle.distance.specs.declared.Distance.{Distance}
+use Rattle.distance.specs.Distances.{isFar}
 use Rattle.record.specs.Record.{capacity, packed}
 use Rattle.record.specs.declared.Rec.{Rec}
 use Rattle.sound.specs.Sound.{Channel, records, sound}
 use Rattle.sound.proofs.Sound.{sound-parts}
 use Rattle.table.specs.declared.Request.{Request}
-use Rattle.table.specs.Table.{Call, clock, reserve, distance, wipe, look, newRecord, requestTests, heldTests, callTests, changed, reported, isLook}
+use Rattle.table.specs.Table.{Call, clock, reserve, distance, wipe, look, farOctet, newRecord, ownedBy, setFar, requestTests, heldTests, callTests, changed, reported, isLook}
 use Rattle.table.specs.Memory.{stateOf, tableOf, channelOf, callRefusal, leaves, says, returned, Gives}
 use Rattle.table.specs.Steps.{refusedAnswer, swept, added, addedMemory}
 
@@ -96,6 +99,31 @@ sweep-gives m c h z n t p q f e r =
     let d : m .count - length (keep p (records m)) ≡ reported (tableOf m) c = rw r (omega (arith, sound-parts m h .counted, length-keep-not p q f (records m))) in
     record { result = rw (d, ← g .result, e); octets = rw (← g .octets, e) }
 
+-- ---- a distance
+
+-- where far is rewritten in the station's k records, and the octets b hold that
+pub distance-gives : (m : Channel) (s : ℕ) (d : Distance) (limit : Float) → sound m ≡ true → firstOf (callTests (tableOf m) (distance s d limit)) ≡ 0
+    → (k far : ℕ) (b : List ℕ) → k ≡ length (keep (ownedBy s) (records m)) → far ≡ farOctet (isFar d limit) → b ≡ packed (capacity (m .memory)) (map (setFar s far) (records m))
+    → Gives m (distance s d limit) (record { refusal = 0; number = k; state = stateOf m }) b
+unfolding tableOf channelOf
+distance-gives m s d limit h z k far b ek ef eb =
+    let g = accepted-gives m (distance s d limit) (sym (callRefusal-sound m (distance s d limit) h ∙ z)) refl in
+    record { result = rw (ek, ← g .result, length-map, sound-parts m h .counted); octets = eb ∙ rw ef (g .octets) }
+
+-- ---- a record to be added
+
+module _ (m : Channel) (x : Rec) where
+  -- refused with n
+  pub add-refused : (n : ℕ) → n ≡ firstOf (heldTests (tableOf m) x) → (n ≡ 0 → ⊥) → (refusedAnswer n (stateOf m) ≡ added m x) × (m .memory ≡ addedMemory m x)
+  unfolding added addedMemory
+  add-refused n e h = (answer-refused _ _ {n = n} e h, answer-refused _ _ {n = n} e h)
+
+  -- not refused
+  pub add-accepted : 0 ≡ firstOf (heldTests (tableOf m) x)
+      → (record { refusal = 0; number = 0; state = record { m1 = m .m1; now = m .now; count = m .count + 1 } } ≡ added m x) × (packed (capacity (m .memory)) (records m ++ (x ∷ [])) ≡ addedMemory m x)
+  unfolding added addedMemory
+  add-accepted e = (answer-accepted _ _ e, answer-accepted _ _ e)
+
 -- ---- a reserve
 
 -- no number of a request is above its range
@@ -128,9 +156,9 @@ module _ (m : Channel) (q : Request) where
   request-refused h z = tested-gives m (reserve q) h _ (firstOf-stop (requestTests q) (heldTests (tableOf m) x) z) z
 
   -- not refused for them, it goes by the place for its record
-  pub request-added : sound m ≡ true → firstOf (requestTests q) ≡ 0 → Gives m (reserve q) (added m x) (addedMemory m x)
-  unfolding added addedMemory channelOf tableOf
-  request-added h z = go (firstOf (heldTests (tableOf m) x)) refl
+  added-gives : sound m ≡ true → firstOf (requestTests q) ≡ 0 → Gives m (reserve q) (added m x) (addedMemory m x)
+  unfolding channelOf tableOf
+  added-gives h z = go (firstOf (heldTests (tableOf m) x)) refl
     where
       e : callRefusal m (reserve q) ≡ firstOf (heldTests (tableOf m) x)
       e = callRefusal-sound m (reserve q) h ∙ firstOf-append (requestTests q) (heldTests (tableOf m) x) refl z
@@ -141,10 +169,16 @@ module _ (m : Channel) (q : Request) where
       go : (n : ℕ) → firstOf (heldTests (tableOf m) x) ≡ n → Gives m (reserve q) (added m x) (addedMemory m x)
       go zero f =
           let g = accepted-gives m (reserve q) (sym (e ∙ f)) refl in
-          record { result = sym (answer-accepted _ _ (sym f)) ∙ rw (← l) (g .result); octets = sym (answer-accepted _ _ (sym f)) ∙ g .octets }
+          let a = add-accepted m x (sym f) in
+          record { result = sym (a .0) ∙ rw (← l) (g .result); octets = sym (a .1) ∙ g .octets }
       go (suc n) f =
           let g = refused-gives m (reserve q) (suc n) (sym (e ∙ f)) (omega arith) in
-          record {
-            result = sym (answer-refused _ _ {n = suc n} (sym f) (omega arith)) ∙ g .result;
-            octets = sym (answer-refused _ _ {n = suc n} (sym f) (omega arith)) ∙ g .octets;
-          }
+          let a = add-refused m x (suc n) (sym f) (omega arith) in
+          record { result = sym (a .0) ∙ g .result; octets = sym (a .1) ∙ g .octets }
+
+  -- its far may come as a number that is shown to be it
+  abbrev with-far : ℕ → Rec
+  with-far far = record { station = x .station; first = x .first; rate = x .rate; superframes = x .superframes; length = x .length; far = far }
+
+  pub request-added : sound m ≡ true → firstOf (requestTests q) ≡ 0 → (far : ℕ) → far ≡ x .far → Gives m (reserve q) (added m (with-far far)) (addedMemory m (with-far far))
+  request-added h z far e = rw e (added-gives h z)

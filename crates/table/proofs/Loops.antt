@@ -26,9 +26,9 @@ module _ (p : Rec → Bool) (vs : List Rec) where
   keep-more i h = rw (add-one, take-suc vs i blank h, keep-append)
 
   -- it is counted where it passes
-  pub count-next : (w : List Rec) (i k : ℕ) → i < length vs → k ≡ length (keep p (take i vs)) → getD w i blank ≡ getD vs i blank
-      → sieved p w i (k + 1) k ≡ length (keep p (take (i + 1) vs))
-  count-next w i k h ek at = rw (at, keep-more i h, length-append, ← ek) (go (p (getD vs i blank)))
+  pub count-next : (w : List Rec) (i k next : ℕ) → i < length vs → k ≡ length (keep p (take i vs)) → getD w i blank ≡ getD vs i blank → next ≡ sieved p w i (k + 1) k
+      → next ≡ length (keep p (take (i + 1) vs))
+  count-next w i k next h ek at e = rw (e, at, keep-more i h, length-append, ← ek) (go (p (getD vs i blank)))
     where
       go : (b : Bool) → cond b (k + 1) k ≡ k + length (cond b (getD vs i blank ∷ []) [])
       go true = refl
@@ -39,8 +39,8 @@ module _ (p : Rec → Bool) (vs : List Rec) where
   Sifted w i k = (k ≡ length (keep p (take i vs))) × (take k w ≡ keep p (take i vs)) × (drop i w ≡ drop i vs)
 
   -- one record more is moved down, and counted where it passes
-  pub sifted-next : (w : List Rec) (i k : ℕ) → i < length vs → Sifted w i k → Sifted (set w k (getD w i blank)) (i + 1) (sieved p w i (k + 1) k)
-  sifted-next w i k h s = (count-next w i k h (s .0) at, rw (at, keep-more i h) (front (p (getD vs i blank))), back)
+  pub sifted-next : (w left : List Rec) (i k next : ℕ) → i < length vs → Sifted w i k → next ≡ sieved p w i (k + 1) k → left ≡ set w k (getD w i blank) → Sifted left (i + 1) next
+  sifted-next w left i k next h s e l = (count-next w i k next h (s .0) at e, rw (e, l, at, keep-more i h) (front (p (getD vs i blank))), rw l back)
     where
       at : getD w i blank ≡ getD vs i blank
       at = simp (getD-drop, add-zero) at (ap (λ u. getD u 0 blank) (s .2))
@@ -74,10 +74,11 @@ module _ (f : Rec → Rec) (vs w : List Rec) (i : ℕ) (h : i < length vs) (ew :
   mapped-at = rw (mapped-is, getD-at (map f (take i vs)) (getD vs i blank) (drop (suc i) vs) blank i mapped-len)
 
   -- changed, it stands with the others
-  pub mapped-next : set w i (f (getD w i blank)) ≡ mapped f (i + 1) vs
+  pub mapped-next : (left : List Rec) → left ≡ set w i (f (getD w i blank)) → left ≡ mapped f (i + 1) vs
   unfolding mapped
-  mapped-next =
+  mapped-next left l =
       rw (
+        l,
         mapped-at,
         mapped-is,
         set-at (map f (take i vs)) (getD vs i blank) (drop (suc i) vs) (f (getD vs i blank)) i mapped-len,

@@ -1,14 +1,27 @@
--- How many records the calls leave. Assumes nothing.
-use Prim.Native.Nat.{_≤_}
+-- How many records the calls leave, and what a sweep leaves. Assumes nothing.
+use Prim.Native.Nat.{ℕ, _-_, _≤_}
 use native.Mathlib.Omega.{arith}
+use mathlib.Core.Path.{_≡_}
 use mathlib.Core.Bool.{Bool}
-use lib.ListN.{length}
+use mathlib.Core.List.{List}
+use lib.ListN.{length, take}
 use Rattle.octets.specs.Lists.{keep}
 use Rattle.octets.proofs.Lists.{length-keep}
+use Rattle.octets.specs.Octets.{AreOctets}
+use Rattle.record.specs.Record.{allRecords, capacity, clearAfter, packed}
 use Rattle.record.specs.declared.Rec.{Rec}
+use Rattle.record.proofs.Packed.{packed-front}
 use Rattle.sound.specs.Sound.{Channel, records}
 use Rattle.sound.proofs.Sound.{SoundParts}
+use Rattle.table.specs.Steps.{swept}
 
 -- the records kept are no more than there were
 pub length-kept : (m : Channel) → SoundParts m → (p : Rec → Bool) → length (keep p (records m)) ≤ m .count
 length-kept m k p = omega (arith, k .counted, length-keep p (records m))
+
+-- with those n at the front of the octets w, and the rest made 0, the table is swept
+pub sweep-is : (m : Channel) → SoundParts m → (t : ℕ) (p : Rec → Bool) (n : ℕ) (w : List ℕ) → AreOctets w → length w ≡ length (m .memory)
+    → n ≡ length (keep p (records m)) → take n (allRecords w) ≡ keep p (records m)
+    → (record { refusal = 0; number = m .count - n; state = record { m1 = m .m1; now = t; count = n } } ≡ swept m t p) × (clearAfter n w ≡ packed (capacity (m .memory)) (keep p (records m)))
+sweep-is m k t p n w b l e f =
+    (rw e, rw e (packed-front (m .memory) w (keep p (records m)) b (k .whole-records) l (omega (arith, length-kept m k p, k .room)) (rw e at f)))

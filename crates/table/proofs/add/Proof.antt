@@ -7,14 +7,13 @@ use denote.Ref.{now}
 use borrow.Author.Tests.{eq-eqb, ne-eqb}
 use borrow.Author.Needs.{needs}
 use Rattle.octets.specs.Lists.{has}
-use Rattle.octets.proofs.Refusals.{answer-refused, answer-accepted}
 use Rattle.record.specs.Record.{capacity}
 use Rattle.record.proofs.Packed.{packed-end}
 use Rattle.sound.specs.Sound.{Channel, records}
 use Rattle.sound.proofs.Sound.{SoundParts, sound-parts}
 use Rattle.table.specs.Table.{same}
 use Rattle.table.specs.Memory.{channel, tableOf}
-use Rattle.table.specs.Steps.{added, addedMemory}
+use Rattle.table.proofs.Calls.{add-refused, add-accepted}
 use Rattle.table.proofs.add.Statement.{statement}
 use Rattle.table.proofs.add.Tie as tie
 
@@ -50,10 +49,12 @@ same-length : tie.Need-same-length
 same-length c = search needs
 
 returns : tie.Need-returns
-unfolding added addedMemory tableOf records
+unfolding tableOf records
 returns c =
-    let old = sym (c .before .before .has-same .ensures) ∙ c .before .if1 .taken in
-    (c .refuse .ensures ∙ answer-refused _ _ (rw old) (omega arith), answer-refused _ _ {n = 16} (rw old) (omega arith))
+    let x = c .before .before in
+    let old = sym (x .has-same .ensures) ∙ c .before .if1 .taken in
+    let a = add-refused (given x) (entry x .args .x) 16 (rw old) (omega arith) in
+    (c .refuse .ensures ∙ a .0, a .1)
 
 capacity-requires : tie.Need-capacity-requires
 capacity-requires c κs = search needs
@@ -65,12 +66,13 @@ same-length-2 : tie.Need-same-length-2
 same-length-2 c = search needs
 
 returns-2 : tie.Need-returns-2
-unfolding added addedMemory tableOf records
+unfolding tableOf
 returns-2 c =
     let at-if1 = c .before .before .before .before in
-    let k = all-held (at-if1 .before) in
+    let x = at-if1 .before in
     let full = eq-eqb _ _ (c .before .if2 .taken ∙ c .before .before .capacity .ensures) in
-    (c .refuse2 .ensures ∙ answer-refused _ _ (rw (is-new at-if1, k .counted, full)) (omega arith), answer-refused _ _ {n = 17} (rw (is-new at-if1, k .counted, full)) (omega arith))
+    let a = add-refused (given x) (entry x .args .x) 17 (rw (is-new at-if1, all-held x .counted, full)) (omega arith) in
+    (c .refuse2 .ensures ∙ a .0, a .1)
 
 store-requires : tie.Need-store-requires
 store-requires c κs = search needs
@@ -81,10 +83,10 @@ add-count c =
     omega (arith, k .room, k .capacity-most)
 
 same-length-3 : tie.Need-same-length-3
-same-length-3 c = search needs
+same-length-3 c = c .before .before .before .store .kept .0
 
 returns-3 : tie.Need-returns-3
-unfolding added addedMemory tableOf records
+unfolding tableOf records
 returns-3 c =
     let at-if2 = c .before .before .before .before .before in
     let at-if1 = at-if2 .before .before .before in
@@ -94,10 +96,9 @@ returns-3 c =
     let other : m .count ≡ capacity (m .memory) → ⊥ = λ e. at-if2 .if2 .left (e ∙ sym (at-if2 .before .capacity .ensures)) in
     let room : m .count < capacity (m .memory) = omega (arith, k .room, other) in
     let free = ne-eqb (m .count) (capacity (m .memory)) other in
-    let end = packed-end (m .memory) (m .count) (λ i. x .before .before .before .slice-known .given i .fits) (k .whole-records) (k .room) (k .clear) (entry x .args .x) room in (
-      answer-accepted _ _ (rw (is-new at-if1, k .counted, free)),
-      c .before .before .before .store .ensures .0 ∙ end ∙ answer-accepted _ _ (rw (is-new at-if1, k .counted, free)),
-    )
+    let end = packed-end (m .memory) (m .count) (λ i. x .before .before .before .slice-known .given i .fits) (k .whole-records) (k .room) (k .clear) (entry x .args .x) room in
+    let a = add-accepted m (entry x .args .x) (rw (is-new at-if1, k .counted, free)) in
+    (a .0, c .before .before .before .store .ensures .0 ∙ end ∙ a .1)
 
 pub add-spec : {M : Type 1} → statement M
 add-spec =

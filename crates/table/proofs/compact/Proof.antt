@@ -35,18 +35,18 @@ add-i : tie.Need-add-i Inv-loop μ-loop
 add-i c = omega arith
 
 loop-less : tie.Need-loop-less Inv-loop μ-loop
-loop-less c = omega arith
+loop-less c = omega (arith, c .before .before .before .before .loop-test .taken)
 
 loop-again : tie.Need-loop-again Inv-loop μ-loop
 loop-again c =
     let h = c .before .before .before .before .before in
     let s = h .before .before .before .before in
     let m = now (s .args .memory) in
+    let l = c .before .before .before .before .loop-test .taken in
     let sift = c .before .before .sift in (
-      omega arith,
+      omega (arith, l),
       sift .kept .0 ∙ h .loop .inv .1,
-      rw (sift .ensures .0, sift .ensures .1)
-          (sifted-next (stays (s .args .rule)) (allRecords m) (allRecords (h .loop .memory)) (h .loop .i) (h .loop .k) (omega (arith, h .before .held-count .ensures .1, length-allRecords m)) (h .loop .inv .2)),
+      sifted-next (stays (s .args .rule)) (allRecords m) (allRecords (h .loop .memory)) (allRecords (sift .last .0)) (h .loop .i) (h .loop .k) (sift .result) (omega (arith, l, h .before .held-count .ensures .1, length-allRecords m)) (h .loop .inv .2) (sift .ensures .0) (sift .ensures .1),
     )
 
 same-length : tie.Need-same-length Inv-loop μ-loop

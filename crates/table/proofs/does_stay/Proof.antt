@@ -13,7 +13,7 @@ last-slot-requires c κs = search needs
 
 returns : tie.Need-returns
 unfolding stays lasts
-returns c = cc
+returns c = rw (c .before .last-slot .ensures)
 
 pub does-stay-spec : {M : Type 1} → statement M
 does-stay-spec = tie.close (tie.spec cast-live last-slot-requires returns)

@@ -11,27 +11,27 @@ use Rattle.table.proofs.judge_request.Statement.{statement}
 use Rattle.table.proofs.judge_request.Tie as tie
 
 returns : tie.Need-returns
-returns c = simp (le-leb _ _ (c .if1 .taken))
+returns c = rw (le-leb _ _ (c .if1 .taken))
 
 returns-2 : tie.Need-returns-2
-returns-2 c = simp (lt-leb _ _ (c .before .if1 .left), c .if2 .taken)
+returns-2 c = rw (lt-leb _ _ (c .before .if1 .left), c .if2 .taken)
 
 returns-3 : tie.Need-returns-3
 returns-3 c =
     let two = c .before .before in
-    simp (lt-leb _ _ (two .before .if1 .left), two .if2 .left, eq-eqb _ _ (c .if3 .taken))
+    rw (lt-leb _ _ (two .before .if1 .left), two .if2 .left, eq-eqb _ _ (c .if3 .taken))
 
 returns-4 : tie.Need-returns-4
 returns-4 c =
     let three = c .before .before in
     let two = three .before .before in
-    simp (lt-leb _ _ (two .before .if1 .left), two .if2 .left, ne-eqb _ _ (three .if3 .left), c .if4 .taken)
+    rw (lt-leb _ _ (two .before .if1 .left), two .if2 .left, ne-eqb _ _ (three .if3 .left), c .if4 .taken)
 
 returns-5 : tie.Need-returns-5
 returns-5 c =
     let three = c .before .before .before in
     let two = three .before .before in
-    simp (
+    rw (
       lt-leb _ _ (two .before .if1 .left),
       two .if2 .left,
       ne-eqb _ _ (three .if3 .left),
@@ -47,7 +47,7 @@ good-numbers : (c : tie.Else5) → firstOf (requestTests (request c)) ≡ cond (
 good-numbers c =
     let three = c .before .before .before in
     let two = three .before .before in
-    simp (
+    rw (
       lt-leb _ _ (two .before .if1 .left),
       two .if2 .left,
       ne-eqb _ _ (three .if3 .left),

@@ -20,7 +20,7 @@ add-result : tie.Need-add-result
 add-result c = omega (arith, capacity-most (now (c .before .before .before .before .before .before .before .before .before .args .memory)))
 
 same-length : tie.Need-same-length
-same-length c = search needs
+same-length c = c .before .before .store .kept .0
 
 returns : tie.Need-returns
 returns c =

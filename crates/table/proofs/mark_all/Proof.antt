@@ -39,7 +39,7 @@ add-i : tie.Need-add-i Inv-loop μ-loop
 add-i c = omega arith
 
 loop-less : tie.Need-loop-less Inv-loop μ-loop
-loop-less c = omega arith
+loop-less c = omega (arith, c .before .before .before .before .loop-test .taken)
 
 loop-again : tie.Need-loop-again Inv-loop μ-loop
 loop-again c =
@@ -50,12 +50,13 @@ loop-again c =
     let f = setFar (s .args .station) (s .args .far) in
     let w = allRecords (h .loop .memory) in
     let i = h .loop .i in
-    let l : i < length vs = omega (arith, h .before .held-count .ensures .1, length-allRecords m) in
+    let t = c .before .before .before .before .loop-test .taken in
+    let l : i < length vs = omega (arith, t, h .before .held-count .ensures .1, length-allRecords m) in
     let mark = c .before .before .mark in (
-      omega arith,
+      omega (arith, t),
       mark .kept .0 ∙ h .loop .inv .1,
-      mark .ensures .0 ∙ count-next (ownedBy (s .args .station)) vs w i (h .loop .k) l (h .loop .inv .2) (mapped-at f vs w i l (h .loop .inv .3)),
-      mark .ensures .1 ∙ mapped-next f vs w i l (h .loop .inv .3),
+      count-next (ownedBy (s .args .station)) vs w i (h .loop .k) (mark .result) l (h .loop .inv .2) (mapped-at f vs w i l (h .loop .inv .3)) (mark .ensures .0),
+      mapped-next f vs w i l (h .loop .inv .3) (allRecords (mark .last .0)) (mark .ensures .1),
     )
 
 same-length : tie.Need-same-length Inv-loop μ-loop

@@ -12,7 +12,7 @@ store-requires : tie.Need-store-requires
 store-requires c κs = search needs
 
 same-length : tie.Need-same-length
-same-length c = search needs
+same-length c = c .before .before .store .kept .0
 
 returns : tie.Need-returns
 returns c = search needs

@@ -20,7 +20,7 @@ add-result : tie.Need-add-result
 add-result c = omega (arith, capacity-most (now (c .before .before .before .before .before .before .before .before .before .args .memory)))
 
 same-length : tie.Need-same-length
-same-length c = search needs
+same-length c = c .before .before .before .before .move-down .kept .0
 
 returns : tie.Need-returns
 returns c =
@@ -28,7 +28,7 @@ returns c =
     rw (← h .before .before .load .ensures, ← c .before .does-stay .ensures, c .if1 .taken) (refl, h .move-down .ensures)
 
 same-length-2 : tie.Need-same-length-2
-same-length-2 c = search needs
+same-length-2 c = c .before .before .before .before .move-down .kept .0
 
 returns-2 : tie.Need-returns-2
 returns-2 c =

@@ -1,18 +1,14 @@
 -- `table::sweep` meets its contract: what stays is the front of the memory, and the rest is made 0. Assumes nothing.
 use Prim.Native.Nat.{_≤_}
 use native.Mathlib.Omega.{arith}
-use mathlib.Core.Path.{_≡_, _∙_}
+use mathlib.Core.Path.{_∙_}
 use denote.Ref.{now}
 use borrow.Author.Needs.{needs}
-use lib.ListN.{length}
-use Rattle.octets.specs.Lists.{keep}
-use Rattle.record.specs.Record.{capacity}
-use Rattle.record.proofs.Packed.{packed-front}
 use Rattle.sound.specs.Sound.{Channel, records}
 use Rattle.sound.proofs.Sound.{SoundParts, sound-parts}
 use Rattle.table.specs.Memory.{channel}
 use Rattle.table.specs.Steps.{stays}
-use Rattle.table.proofs.Memory.{length-kept}
+use Rattle.table.proofs.Memory.{length-kept, sweep-is}
 use Rattle.table.proofs.sweep.Statement.{statement}
 use Rattle.table.proofs.sweep.Tie as tie
 
@@ -56,18 +52,16 @@ cast-t14 c =
     omega (arith, kept-most x, all-held x .room, all-held x .capacity-most)
 
 same-length : tie.Need-same-length
-same-length c = search needs
+same-length c = c .before .before .clear .kept .0 ∙ c .before .before .before .before .before .before .compact .kept .0
 
 returns : tie.Need-returns
 unfolding records
 returns c =
     let at-slice = c .before .before .before .before in
     let x = at-slice .before .before in
-    let rs = keep (stays (entry x .args .rule)) (records (given x)) in
-    let kept : x .compact .result ≡ length rs = x .compact .ensures .0 in
-    let room : length rs ≤ capacity (given x .memory) = omega (arith, kept-most x, all-held x .room) in
-    let front = packed-front (given x .memory) (x .compact .last .0) rs (λ i. at-slice .slice-known2 .given i .fits) (all-held x .whole-records) (x .compact .kept .0) room (rw kept at (x .compact .ensures .1)) in
-    (rw kept, c .before .before .clear .ensures ∙ rw kept front)
+    let kept = x .compact in
+    let g = sweep-is (given x) (all-held x) (entry x .args .time) (stays (entry x .args .rule)) (kept .result) (kept .last .0) (λ i. at-slice .slice-known2 .given i .fits) (kept .kept .0) (kept .ensures .0) (kept .ensures .1) in
+    (g .0, c .before .before .clear .ensures ∙ g .1)
 
 pub sweep-spec : {M : Type 1} → statement M
 sweep-spec =

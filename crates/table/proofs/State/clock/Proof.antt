@@ -60,7 +60,7 @@ sweep-requires : tie.Need-sweep-requires
 sweep-requires c κs = is-sound (c .before .before .before .before)
 
 same-length-3 : tie.Need-same-length-3
-same-length-3 c = search needs
+same-length-3 c = c .before .before .sweep .kept .1 .0
 
 returns-3 : tie.Need-returns-3
 unfolding tableOf stays

@@ -1,19 +1,18 @@
 -- `table::State::distance` meets its contract: what it is refused for, and else the records changed in place. Assumes nothing.
 use native.Mathlib.Omega.{arith}
-use mathlib.Core.Path.{_≡_, refl, sym, _∙_}
+use mathlib.Core.Path.{_≡_, sym, _∙_}
 use mathlib.Core.Bool.{true}
 use denote.Ref.{now}
 use borrow.Author.Tests.{le-leb, lt-leb}
 use borrow.Author.Needs.{needs}
-use lib.ListN.{length-map}
 use Rattle.record.proofs.Packed.{packed-map}
 use Rattle.sound.specs.Sound.{Channel, records, sound}
 use Rattle.sound.proofs.Sound.{SoundParts, sound-parts}
 use Rattle.table.specs.Table.{Call, distance, ownedBy, setFar}
-use Rattle.table.specs.Memory.{channel, tableOf, channelOf}
+use Rattle.table.specs.Memory.{channel}
 use Rattle.table.specs.Steps.{mapped}
 use Rattle.table.proofs.Memory.{length-kept}
-use Rattle.table.proofs.Calls.{callRefusal-sound, unsound-gives, tested-gives, accepted-gives}
+use Rattle.table.proofs.Calls.{unsound-gives, tested-gives, distance-gives}
 use Rattle.table.proofs.State.distance.Statement.{statement}
 use Rattle.table.proofs.State.distance.Tie as tie
 
@@ -70,23 +69,24 @@ cast-t16 c =
     omega (arith, c .before .before .mark-all .ensures .0, length-kept (given (t .before)) k (ownedBy (t .before .before .before .before .args .station)), k .room, k .capacity-most)
 
 same-length-2 : tie.Need-same-length-2
-same-length-2 c = search needs
+same-length-2 c = c .before .before .mark-all .kept .0
 
 returns-2 : tie.Need-returns-2
-unfolding tableOf channelOf records mapped
+unfolding records mapped
 returns-2 c =
     let at-far-bit = c .before .before .before .before .before in
     let at-if3 = at-far-bit .before in
     let at-if2 = at-if3 .before .before in
     let t = at-if2 .before in
     let at-slice = t .before .before .before in
+    let a = at-slice .before .args in
     let m = given (t .before) in
     let k = all-held t in
+    let far = at-far-bit .far-bit in
     let fit = sym (at-if3 .before .limit-fits .ensures) ∙ at-if3 .if3 .taken in
-    let g = accepted-gives m (call (t .before)) (sym (callRefusal-sound m (call (t .before)) (is-sound t) ∙ rw (lt-leb _ _ (at-if2 .if2 .left), fit))) refl in
     let mark = c .before .before .mark-all in
-    let w = packed-map (m .memory) (m .count) (λ i. at-slice .slice-known .given i .fits) (k .whole-records) (k .room) (k .clear) (setFar (at-slice .before .args .station) (at-far-bit .far-bit .result)) (mark .last .0) (λ i. c .slice-known2 .given i .fits) (mark .kept .0) (mark .ensures .1) in
-    record { result = rw (mark .ensures .0, ← g .result, length-map, k .counted); octets = w ∙ rw (at-far-bit .far-bit .ensures) (g .octets) }
+    let w = packed-map (m .memory) (m .count) (λ i. at-slice .slice-known .given i .fits) (k .whole-records) (k .room) (k .clear) (setFar (a .station) (far .result)) (mark .last .0) (λ i. c .slice-known2 .given i .fits) (mark .kept .0) (mark .ensures .1) in
+    distance-gives m (a .station) (a .d) (a .limit) (is-sound t) (rw (lt-leb _ _ (at-if2 .if2 .left), fit)) (mark .result) (far .result) (mark .last .0) (mark .ensures .0) (far .ensures) w
 
 refuse-requires-2 : tie.Need-refuse-requires-2
 refuse-requires-2 c κs = search needs

@@ -21,7 +21,7 @@ clear-requires : tie.Need-clear-requires
 clear-requires c κs = search needs
 
 same-length : tie.Need-same-length
-same-length c = search needs
+same-length c = c .before .before .clear .kept .0
 
 returns : tie.Need-returns
 unfolding openRefusal openLeaves openReturned answer

@@ -63,17 +63,17 @@ add-requires : tie.Need-add-requires
 add-requires c κs = is-sound (c .before .before .before .before .before .before .before .before .before)
 
 same-length : tie.Need-same-length
-same-length c = search needs
+same-length c = c .before .before .add .kept .1 .0
 
 returns : tie.Need-returns
 returns c =
     let at-far-bit = c .before .before .before .before .before .before .before .before .before in
     let at-if2 = at-far-bit .before in
     let t = at-if2 .before .before in
-    let far = at-far-bit .far-bit .ensures in
+    let far = at-far-bit .far-bit in
     let add = c .before .before .add in
-    let g = request-added (given (t .before)) (request (t .before)) (is-sound t) (is-passed at-if2) in
-    record { result = add .ensures .0 ∙ rw far (g .result); octets = add .ensures .1 ∙ rw far (g .octets) }
+    let g = request-added (given (t .before)) (request (t .before)) (is-sound t) (is-passed at-if2) (far .result) (far .ensures) in
+    record { result = add .ensures .0 ∙ g .result; octets = add .ensures .1 ∙ g .octets }
 
 refuse-requires : tie.Need-refuse-requires
 refuse-requires c κs = search needs

@@ -50,7 +50,7 @@ sweep-requires : tie.Need-sweep-requires
 sweep-requires c κs = is-sound (c .before .before)
 
 same-length-2 : tie.Need-same-length-2
-same-length-2 c = search needs
+same-length-2 c = c .before .before .sweep .kept .1 .0
 
 returns-2 : tie.Need-returns-2
 unfolding tableOf stays lasts
