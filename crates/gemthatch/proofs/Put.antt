@@ -1,13 +1,14 @@
 -- Numbers put into a wiped list, four octets to each: `inOctets` by `sets`. Assumes nothing.
-use Prim.Native.Nat.{ℕ, _+_, _*_, _<_, _≤_}
+use Prim.Native.Nat.{ℕ, _+_, _-_, _*_, _<_, _≤_}
 use native.Mathlib.Numerals.{add-one}
 use native.Mathlib.Omega.{arith}
 use mathlib.Core.Path.{_≡_, refl, sym, ap, _∙_}
 use mathlib.Core.List.{List, [], _∷_, _++_, append-assoc, append-nil}
-use lib.ListN.{length, take, drop, getD, length-append}
+use lib.ListN.{length, take, drop, getD, length-append, length-take, length-drop}
 use lib.Seq.{sets, sets-eq, take-suc, length-take-le}
-use Rattle.octets.specs.Octets.{little, holdsOnly}
-use Rattle.octets.proofs.Octets.{length-little}
+use borrow.Rule.Slice.PartMut.{midOf, putMid, post-is}
+use Rattle.octets.specs.Octets.{little, putAt, holdsOnly}
+use Rattle.octets.proofs.Octets.{length-little, putAt-whole}
 use Rattle.octets.proofs.Zeros.{sets-holdsOnly}
 use Rattle.gemthatch.specs.OverC.{inOctets}
 
@@ -30,7 +31,7 @@ inOctets-next i ns h = rw (add-one, take-suc ns i 0 h) (inOctets-append (take i 
 -- ---- a wiped list, filled
 
 -- one number behind the first i, which it holds already
-pub put-next : (places i : ℕ) (ns list : List ℕ) → i < length ns → i * 4 + 4 ≤ places → length list ≡ places → list ≡ holdsOnly places (inOctets (take i ns))
+put-next : (places i : ℕ) (ns list : List ℕ) → i < length ns → i * 4 + 4 ≤ places → length list ≡ places → list ≡ holdsOnly places (inOctets (take i ns))
     → take (i * 4) list ++ (little 4 (getD ns i 0) ++ drop (i * 4 + 4) list) ≡ holdsOnly places (inOctets (take (i + 1) ns))
 put-next places i ns list h fits l e =
     let n = little 4 (getD ns i 0) in
@@ -40,3 +41,11 @@ put-next places i ns list h fits l e =
     ∙ ap (λ m. sets m (i * 4) n) e
     ∙ sets-holdsOnly places (inOctets (take i ns)) n (i * 4) k (omega arith)
     ∙ ap (holdsOnly places) (sym (inOctets-next i ns h))
+
+-- so where they are written over the part of the list from there on
+pub put-part : (places i : ℕ) (ns list part : List ℕ) → i < length ns → i * 4 + 4 ≤ places → length list ≡ places → list ≡ holdsOnly places (inOctets (take i ns))
+    → part ≡ putAt 4 (midOf (i * 4) (i * 4 + 4 - i * 4) list) 0 (getD ns i 0) → putMid (i * 4) (i * 4 + 4 - i * 4) list part ≡ holdsOnly places (inOctets (take (i + 1) ns))
+put-part places i ns list part h fits l e p =
+    let a = i * 4 in
+    let four : length (midOf a (a + 4 - a) list) ≡ 4 = simp (length-take, length-drop) (omega arith) in
+    rw (p, putAt-whole 4 (midOf a (a + 4 - a) list) (getD ns i 0) four, post-is a (a + 4) list (omega arith)) (put-next places i ns list h fits l e)

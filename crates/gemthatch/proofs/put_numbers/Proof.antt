@@ -3,13 +3,12 @@ use Prim.Native.Nat.{_+_, _-_, _*_, _≤_}
 use native.Mathlib.Omega.{arith}
 use mathlib.Core.Path.{_≡_, refl, _∙_}
 use denote.Ref.{now}
-use lib.ListN.{length, getD, take, drop, length-take, length-drop}
-use borrow.Rule.Slice.PartMut.{same-len-mid, post-is}
+use lib.ListN.{length, take}
+use borrow.Rule.Slice.PartMut.{same-len-mid}
 use borrow.Author.Needs.{needs}
 use Rattle.octets.specs.Octets.{holdsOnly}
-use Rattle.octets.proofs.Octets.{putAt-whole}
 use Rattle.gemthatch.specs.OverC.{inOctets}
-use Rattle.gemthatch.proofs.Put.{put-next}
+use Rattle.gemthatch.proofs.Put.{put-part}
 use Rattle.gemthatch.proofs.put_numbers.Statement.{statement}
 use Rattle.gemthatch.proofs.put_numbers.Tie as tie
 
@@ -42,7 +41,7 @@ mul-put-number : tie.Need-mul-put-number Inv-loop μ-loop
 mul-put-number c = search needs
 
 shared-slice-read-put-number : tie.Need-shared-slice-read-put-number Inv-loop μ-loop
-shared-slice-read-put-number c = search needs
+shared-slice-read-put-number c = omega (arith, c .before .before .loop-test .taken, c .before .before .before .before .before .before .pre .0)
 
 put-number-requires : tie.Need-put-number-requires Inv-loop μ-loop
 put-number-requires c κs = search needs
@@ -51,23 +50,22 @@ add-i : tie.Need-add-i Inv-loop μ-loop
 add-i c = search needs
 
 loop-less : tie.Need-loop-less Inv-loop μ-loop
-loop-less c = search needs
+loop-less c = omega (arith, c .before .before .before .before .before .loop-test .taken)
 
 loop-again : tie.Need-loop-again Inv-loop μ-loop
 loop-again c =
     let h = c .before .before .before .before .before .before in
-    let args = h .before .before .before .args in
+    let start = h .before .before .before in
     let inv = h .loop .inv in
     let p = c .before .before .put-number in
     let list = h .loop .list in
     let i = h .loop .i in
     let a = i * 4 in
-    let part = take (a + 4 - a) (drop a list) in
-    let four : length part ≡ 4 = simp (length-take, length-drop) (omega arith) in (
-      omega arith,
+    let more = c .before .before .before .before .before .loop-test .taken in
+    let fits = start .pre .0 in (
+      omega (arith, more),
       same-len-mid a (a + 4 - a) list (p .last .0) (p .kept .0) ∙ inv .1,
-      rw (p .ensures, putAt-whole 4 part (getD (now (args .numbers)) i 0) four, post-is a (a + 4) list (omega arith))
-          (put-next (length (now (args .list))) i (now (args .numbers)) list (omega arith) (omega arith) (inv .1) (inv .2)),
+      put-part (length (now (start .args .list))) i (now (start .args .numbers)) list (p .last .0) (omega (arith, more, fits)) (omega (arith, more, fits)) (inv .1) (inv .2) (p .ensures),
     )
 
 same-length : tie.Need-same-length Inv-loop μ-loop
