@@ -19,6 +19,7 @@ use Rattle.record.specs.declared.Rec.{Rec}
 use Rattle.sound.specs.Sound.{Channel, records, sound}
 use Rattle.sound.proofs.Sound.{sound-parts}
 use Rattle.table.specs.declared.Request.{Request}
+use Rattle.table.specs.declared.Answer.{Answer}
 use Rattle.table.specs.Table.{Call, clock, reserve, distance, wipe, look, farOctet, newRecord, ownedBy, setFar, requestTests, heldTests, callTests, changed, reported, isLook}
 use Rattle.table.specs.Memory.{stateOf, tableOf, channelOf, callRefusal, leaves, says, returned, Gives}
 use Rattle.table.specs.Steps.{refusedAnswer, swept, added, addedMemory}
@@ -176,9 +177,9 @@ module _ (m : Channel) (q : Request) where
           let a = add-refused m x (suc n) (sym f) (omega arith) in
           record { result = sym (a .0) ∙ g .result; octets = sym (a .1) ∙ g .octets }
 
-  -- its far may come as a number that is shown to be it
-  abbrev with-far : ℕ → Rec
-  with-far far = record { station = x .station; first = x .first; rate = x .rate; superframes = x .superframes; length = x .length; far = far }
-
-  pub request-added : sound m ≡ true → firstOf (requestTests q) ≡ 0 → (far : ℕ) → far ≡ x .far → Gives m (reserve q) (added m (with-far far)) (addedMemory m (with-far far))
-  request-added h z far e = rw e (added-gives h z)
+  -- by a record y that is shown to be it
+  pub request-added : sound m ≡ true → firstOf (requestTests q) ≡ 0
+      → {y : Rec} {r : Answer} {b : List ℕ} → r ≡ added m y → b ≡ addedMemory m y → y ≡ x → Gives m (reserve q) r b
+  request-added h z er eb e =
+      let g = rw (← e) at (added-gives h z) in
+      record { result = er ∙ g .result; octets = eb ∙ g .octets }

@@ -72,8 +72,7 @@ returns c =
     let t = at-if2 .before .before in
     let far = at-far-bit .far-bit in
     let add = c .before .before .add in
-    let g = request-added (given (t .before)) (request (t .before)) (is-sound t) (is-passed at-if2) (far .result) (far .ensures) in
-    record { result = add .ensures .0 ∙ g .result; octets = add .ensures .1 ∙ g .octets }
+    request-added (given (t .before)) (request (t .before)) (is-sound t) (is-passed at-if2) (add .ensures .0) (add .ensures .1) (rw (far .ensures))
 
 refuse-requires : tie.Need-refuse-requires
 refuse-requires c κs = search needs
