@@ -1,5 +1,5 @@
 -- The places of a search's list: beyond sixteen they make no difference, and the first hold what is found. Assumes nothing.
-use Prim.Native.Nat.{ℕ, _-_, _/_, _≤_}
+use Prim.Native.Nat.{ℕ, _-_, _≤_}
 use native.Mathlib.Omega.{arith}
 use mathlib.Core.Path.{_≡_, refl}
 use mathlib.Core.Bool.{Bool, true, false, cond}
@@ -47,11 +47,3 @@ unfolding searched listAfter
 found-front m q places f list rest e l =
     let none : List ℕ = replicate (places - length (found m q places)) 0 in
     rw (e, l, append-assoc) (take-at (found m q places) (none ++ rest) (length (found m q places)) refl)
-
--- as many octets have as many places
-module _ (m : Channel) (q : Query) (octets others : ℕ) (e : octets ≡ others) where
-  pub searched-as : (f : Found) → f ≡ searched m q (octets / 4) → f ≡ searched m q (others / 4)
-  searched-as f h = rw (← e) h
-
-  pub found-as : (ns : List ℕ) → ns ≡ found m q (octets / 4) → ns ≡ found m q (others / 4)
-  found-as ns h = rw (← e) h

@@ -14,7 +14,6 @@ use Rattle.search.specs.Search.{found, searched}
 use Rattle.search.proofs.Answers.{found-fits}
 use Rattle.gemthatch.specs.OverC.{overC, lent, query, searchNumber, inOctets, searchList}
 use Rattle.gemthatch.proofs.Most.{search-most}
-use Rattle.gemthatch.proofs.Places.{searched-as, found-as}
 use Rattle.gemthatch.proofs.gemthatch_search.Statement.{statement}
 use Rattle.gemthatch.proofs.gemthatch_search.Tie as tie
 
@@ -41,10 +40,10 @@ module _ (c : tie.After-search-places) where
   same-octets = at-clear .clear-from .kept .0
 
   answered : c .search-places .result ≡ searched given asked (octets / 4)
-  answered = searched-as given asked (length (at-clear .clear-from .last .0)) octets same-octets (c .search-places .result) (c .search-places .ensures .0)
+  answered = c .search-places .ensures .0 ∙ ap (λ n. searched given asked (n / 4)) same-octets
 
   starts-found : take (c .search-places .result .number) (c .search-places .last .1 .1 .1 .0) ≡ found given asked (octets / 4)
-  starts-found = found-as given asked (length (at-clear .clear-from .last .0)) octets same-octets (take (c .search-places .result .number) (c .search-places .last .1 .1 .1 .0)) (c .search-places .ensures .1)
+  starts-found = c .search-places .ensures .1 ∙ ap (λ n. found given asked (n / 4)) same-octets
 
 -- ---- the needs
 
