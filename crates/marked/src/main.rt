@@ -55,8 +55,8 @@ fn put_state(x: Slot) {
     }
 }
 
-fn put_slot(a: SlotAnswer) {
-    match a {
+fn put_slot(s: State, memory: &[u8], slot: u32) {
+    match table::slot_state(s, memory, slot) {
         SlotAnswer::Is(x) => put_state(x),
         SlotAnswer::Refused(n) => put_refused(n),
     }
@@ -130,10 +130,10 @@ fn put_last_slot(s: State, memory: &[u8]) {
 
 fn put_slots(s: State, memory: &[u8]) {
     put(b"P6");
-    put_slot(table::slot_state(s, memory, 104));
-    put_slot(table::slot_state(s, memory, 110));
-    put_slot(table::slot_state(s, memory, 105));
-    put_slot(table::slot_state(s, memory, 109));
+    put_slot(s, memory, 104);
+    put_slot(s, memory, 110);
+    put_slot(s, memory, 105);
+    put_slot(s, memory, 109);
     put(b"\n");
 }
 
@@ -182,17 +182,22 @@ fn put_search(name: &[u8], s: State, memory: &[u8], lo: u32, hi: u32) {
     put(b"\n");
 }
 
+// What a search gives in T's table, made anew.
+fn put_search_t(name: &[u8], distance: Distance, lo: u32, hi: u32) {
+    let mut memory = [0u8; record::SIZE];
+    let s = reserve_t(&mut memory, distance);
+    put_search(name, s, &memory, lo, hi);
+}
+
 fn put_t() {
-    let mut near_memory = [0u8; record::SIZE];
-    let mut far_memory = [0u8; record::SIZE];
-    let near = reserve_t(&mut near_memory, Distance::Unknown);
-    let far = reserve_t(&mut far_memory, Distance::Range(LIMIT));
-    put_last_slot(near, &near_memory);
-    put_slots(near, &near_memory);
-    put_clocks(near, near_memory);
-    put_search(b"P8", near, &near_memory, 105, 111);
-    put_search(b"P9", far, &far_memory, 105, 111);
-    put_search(b"P10", near, &near_memory, 105, 105);
+    let mut memory = [0u8; record::SIZE];
+    let near = reserve_t(&mut memory, Distance::Unknown);
+    put_last_slot(near, &memory);
+    put_slots(near, &memory);
+    put_clocks(near, memory);
+    put_search_t(b"P8", Distance::Unknown, 105, 111);
+    put_search_t(b"P9", Distance::Range(LIMIT), 105, 111);
+    put_search_t(b"P10", Distance::Unknown, 105, 105);
 }
 
 // ---- P11
@@ -283,17 +288,22 @@ fn put_spacing(name: &[u8], m1: u32, rate: u32) {
     put(b"\n");
 }
 
+// The table that holds T near, and T far of another station.
+fn reserve_both(memory: &mut [u8]) -> State {
+    let near = reserve_t(memory, Distance::Unknown);
+    near.reserve(memory, request_t(2, Distance::Range(LIMIT)))
+        .state
+}
+
 // One far record is not enough for a slot that a near one also holds.
 fn put_near_and_far() {
     let mut memory = [0u8; 2 * record::SIZE];
-    let near = reserve_t(&mut memory, Distance::Unknown);
-    let both = near.reserve(&mut memory, request_t(2, Distance::Range(LIMIT)))
-        .state;
+    let both = reserve_both(&mut memory);
     put(b"near and far on one slot:");
-    put_slot(table::slot_state(both, &memory, 105));
+    put_slot(both, &memory, 105);
     let far = both.wipe(&mut memory, 1).state;
     put(b", far alone:");
-    put_slot(table::slot_state(far, &memory, 105));
+    put_slot(far, &memory, 105);
     put(b"\n");
 }
 

@@ -82,10 +82,11 @@ SlotStateLooks = (m : Channel) (slot : ℕ) → slotSaid (slotAnswer m slot) ≡
 abbrev pub oneSlot : ℕ → Request
 oneSlot s = record { station = s; rate = 1; superframes = 1; bs = 2; length = 1; distance = Unknown; limit = num 150 }
 
--- a memory with room for one record, and the table opened there
+-- a memory with room for one record
 abbrev pub roomForOne : List ℕ
 roomForOne = packed 1 []
 
+-- the table opened there
 abbrev pub openedForOne : Channel
 openedForOne = opened 4500 roomForOne
 

@@ -18,7 +18,7 @@ pub record Sound (t : Table) : Type 0 where
   pub room : len (t .records) ≤ t .capacity
   pub all-good : every (good (t .m1) (t .now)) (t .records) ≡ true
 
--- 11 is not among the refusals
+-- the first refusal that applies on a sound table: 11 is not among them
 abbrev pub refusalOn : Table → Call → ℕ
 refusalOn t c = firstOf (callTests t c)
 
@@ -30,5 +30,6 @@ leftOn t c = answer (refusalOn t c) (changed t c) (λ _. t)
 unfoldable pub saidOn : Table → Call → Said
 saidOn t c = record { refusal = refusalOn t c; number = answer (refusalOn t c) (reported t c) (λ _. 0) }
 
+-- the two as a machine: each call gets the records that the last one left
 abbrev pub onRecords : Machine Table Call Said
 onRecords = record { leaves = leftOn; says = saidOn }
