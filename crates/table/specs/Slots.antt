@@ -15,6 +15,10 @@ use Rattle.table.specs.declared.SlotAnswer.the-variants.{Is, Refused}
 use Rattle.table.specs.Table.{Table, Said, timeTests}
 use Rattle.table.specs.Memory.{tableOf}
 
+-- the records of a table that reserve a slot
+abbrev pub holders : ℕ → List Rec → ℕ → List Rec
+holders m1 rs slot = keep (λ r. reserves m1 r slot) rs
+
 -- a record held as far
 abbrev pub recordFar : Rec → Bool
 recordFar r = eqb (r .far) 1
@@ -23,10 +27,6 @@ recordFar r = eqb (r .far) 1
 unfoldable pub stateBy : List Rec → Slot
 stateBy [] = Free
 stateBy (r ∷ rs) = cond (every recordFar (r ∷ rs)) Reusable Taken
-
--- the records of a table that reserve a slot
-abbrev pub holders : ℕ → List Rec → ℕ → List Rec
-holders m1 rs slot = keep (λ r. reserves m1 r slot) rs
 
 -- the state of a slot over the records of a table
 unfoldable pub slotState : ℕ → List Rec → ℕ → Slot
@@ -40,7 +40,7 @@ slotRefusal m slot = firstOf ((11, not (sound m)) ∷ timeTests (tableOf m) slot
 unfoldable pub slotAnswer : Channel → ℕ → SlotAnswer
 slotAnswer m slot = answer (slotRefusal m slot) (Is (slotState (m .m1) (records m) slot)) Refused
 
--- a state's number
+-- a state's number: 0 free, 1 reusable, 2 taken
 abbrev pub stateNumber : Slot → ℕ
 stateNumber Free = 0
 stateNumber Reusable = 1
