@@ -5,9 +5,11 @@
 # make clean   removes all that was built
 
 archive := target/staticlib/libgemthatch.a
-second := target/second/release/second
-peer := target/second/release/peer
+second := target/bin/second
+peer := target/bin/peer
 proved := crates.txt $(shell find crates -type f)
+
+SHELL := /bin/bash
 
 .PHONY: demo test bench clean second
 
@@ -30,10 +32,11 @@ bench: target/bin/listing second
 	@$(second) bench-listing target/bin/listing $(peer)
 
 second: $(archive)
-	@cargo build --quiet --release --offline --manifest-path tests/second/Cargo.toml --target-dir target/second
+	@. tests/x86-64 && cargo build --quiet --release --offline --manifest-path tests/second/Cargo.toml --target-dir target/second && \
+		mkdir -p target/bin && cp target/second/$$CARGO_BUILD_TARGET/release/{second,peer} target/bin
 
 target/host: examples/host.c include/gemthatch.h $(archive)
-	@gcc -O2 -Iinclude examples/host.c $(archive) -o $@
+	@. tests/x86-64 && gcc -O2 -Iinclude examples/host.c $(archive) -o $@
 
 # What is built is built only once it and all below it are proved, which takes some minutes.
 $(archive): $(proved)

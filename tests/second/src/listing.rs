@@ -505,12 +505,13 @@ fn write_calls(program: &Path) -> Verdict {
     let sink = Temp::holding("listing", &[])?;
 
     // First that a child's calls are counted at all: without this a kernel
-    // that counts nothing would pass every program.
+    // that counts nothing would pass every program. An emulator makes some
+    // calls of its own.
     let ourselves = std::env::current_exe().map_err(|error| error.to_string())?;
     let mut known = Command::new(ourselves);
     known.args(["write-singly", &KNOWN.to_string()]);
     let (counted, outcome) = calls_of(known, source.source()?, sink.sink()?)?;
-    if outcome.errors.len() != KNOWN || !(KNOWN..KNOWN + 20).contains(&counted) {
+    if outcome.errors.len() != KNOWN || !(KNOWN..KNOWN + 100).contains(&counted) {
         return Err(format!(
             "/proc/self/io cannot be used: {counted} write calls of a child that made {KNOWN}"
         ));
