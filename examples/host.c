@@ -132,6 +132,31 @@ static int is_without(const gemthatch_channel *channel, uint32_t station)
     return place.refusal == GEMTHATCH_ACCEPTED;
 }
 
+/* What a burst says. Where nobody is to re-broadcast it, its first three octets end the information field, and are no address. */
+static gemthatch_block show_burst(const uint8_t *octets)
+{
+    const gemthatch_reading read = gemthatch_read(octets, GEMTHATCH_BURST_OCTETS);
+    const gemthatch_block block = read.block;
+    count_call(read.refusal);
+    expect(read.refusal == GEMTHATCH_ACCEPTED, "the burst is read");
+    printf("  blocks of %u slots, rate code %u, block start %u; ", (unsigned)(block.blg + 1u), (unsigned)block.br, (unsigned)block.bs);
+    if (block.destination == GEMTHATCH_DESTINATION_NO_REBROADCAST)
+        printf("no re-broadcast, the information field ends in %02x %02x %02x\n", block.information[0], block.information[1],
+               block.information[2]);
+    else
+        printf("station %u is to re-broadcast it\n", (unsigned)block.d);
+    return block;
+}
+
+/* A burst of our own goes out, if its fields can be written. */
+static uint32_t write_burst(gemthatch_block block, uint8_t *octets)
+{
+    const gemthatch_writing written = gemthatch_write(block);
+    count_call(written.refusal);
+    memcpy(octets, written.octets, GEMTHATCH_BURST_OCTETS);
+    return written.refusal == GEMTHATCH_ACCEPTED ? 0u : GEMTHATCH_REFUSED + written.refusal;
+}
+
 /* A burst comes in: its nine octets are read, and what they announce is reserved for the station that sent it. */
 static uint32_t take_burst(gemthatch_channel *channel, uint32_t station, const uint8_t *octets, uint32_t superframes)
 {
@@ -180,8 +205,12 @@ int main(void)
     /* 00 00 01 20 02 03 05 FE 12: destination 1, blocks of 5 slots, rate code 3, block start 5; and the same with block start 1. */
     static const uint8_t burst[GEMTHATCH_BURST_OCTETS] = { 0x00, 0x00, 0x01, 0x20, 0x02, 0x03, 0x05, 0xFE, 0x12 };
     static const uint8_t noise[GEMTHATCH_BURST_OCTETS] = { 0x00, 0x00, 0x01, 0x20, 0x02, 0x03, 0x01, 0xFE, 0x12 };
+    /* 41 54 43 20 05 03 05 FE 12: the first with a re-broadcast offset that equals the block start: nobody is to re-broadcast it. */
+    static const uint8_t quiet[GEMTHATCH_BURST_OCTETS] = { 0x41, 0x54, 0x43, 0x20, 0x05, 0x03, 0x05, 0xFE, 0x12 };
     const uint32_t tenant = 7001u, resident = 7002u, visitor = 7003u;
     gemthatch_channel alder, birch, cedar, twin;
+    gemthatch_block block;
+    uint8_t octets[GEMTHATCH_BURST_OCTETS];
     uint32_t answer, i;
 
     memset(memories, 0xAA, sizeof memories); /* what the worker had there before */
@@ -196,11 +225,28 @@ int main(void)
     (void)told("Birch's twin, M1 4500", counted(gemthatch_channel_open(&twin, memories[3], OCTETS, GEMTHATCH_M1_DEFAULT)), NULL);
     expect(all_zero(memories[0], sizeof memories), "an opened table is all zero");
 
+    printf("\nTwo bursts, as they are read, and the second written again\n");
+    block = show_burst(burst);
+    expect(block.destination == GEMTHATCH_DESTINATION_ADDRESS && block.d == 1u, "the first has an address");
+    block = show_burst(quiet);
+    expect(block.destination == GEMTHATCH_DESTINATION_NO_REBROADCAST && block.d == 0u, "the second has none");
+    expect(memcmp(block.information, "ATC", sizeof block.information) == 0, "but three octets of text");
+    (void)told("written with its three octets", write_burst(block, octets), NULL);
+    expect(memcmp(octets, quiet, sizeof octets) == 0, "the octets are the same");
+    block.destination = GEMTHATCH_DESTINATION_ADDRESS;
+    block.d = visitor;
+    answer = told("written to the visitor, 7003", write_burst(block, octets), NULL);
+    expect_refused(answer, GEMTHATCH_REFUSED_DESTINATION, "an address can't go with that offset");
+    expect(all_zero(octets, sizeof octets), "and nothing is written");
+    block.roff = 4u;
+    (void)told("written so with offset 4", write_burst(block, octets), NULL);
+    expect(show_burst(octets).d == visitor, "the visitor is to re-broadcast it");
+
     printf("\nSlot 100: bursts come in\n");
     (void)told("Alder's clock", counted(gemthatch_channel_clock(&alder, 100u)), "records over");
     (void)told("Birch's clock", counted(gemthatch_channel_clock(&birch, 100u)), "records over");
     (void)told("the twin's clock", counted(gemthatch_channel_clock(&twin, 100u)), "records over");
-    (void)told("Alder: the visitor, 7003", take_burst(&alder, visitor, burst, 2u), NULL);
+    (void)told("Alder: the visitor, 7003", take_burst(&alder, visitor, quiet, 2u), NULL);
     (void)told("Birch: the tenant, 7001", take_burst(&birch, tenant, burst, 3u), NULL);
     (void)told("Birch: the resident, 7002", take_burst(&birch, resident, burst, 2u), NULL);
     (void)told("the twin: the resident, 7002", take_burst(&twin, resident, burst, 2u), NULL);
@@ -279,7 +325,7 @@ int main(void)
         printf("\nBirch and its twin are the same in every octet, and the scratch list is empty.\n");
     else
         printf("\n%d things came out otherwise.\n", surprises);
-    printf("The day's tally: %u calls accepted, %u refused (a burst is up to three calls, a walk counts as one)\n", (unsigned)day.accepted,
-           (unsigned)day.refused);
+    printf("The day's tally: %u calls accepted, %u refused (a burst that comes in is up to three calls, a walk counts as one)\n",
+           (unsigned)day.accepted, (unsigned)day.refused);
     return surprises == 0 ? 0 : 1;
 }

@@ -105,7 +105,8 @@ enum gemthatch_refusal {
     GEMTHATCH_REFUSED_SEARCH_RANGE = 19,   /* lo before now, lo above hi, hi above 1,000,000,000, or hi - lo at least M1 */
     GEMTHATCH_REFUSED_WANTED = 20,         /* wanted outside 1..16; pick from n outside 1..16 */
     GEMTHATCH_REFUSED_NONE = 21,           /* no start in the range has a block without a taken slot */
-    GEMTHATCH_REFUSED_PARAMETER = 22       /* parameter number not 1..3 */
+    GEMTHATCH_REFUSED_PARAMETER = 22,      /* parameter number not 1..3 */
+    GEMTHATCH_REFUSED_DESTINATION = 34     /* an address with roff equal to bs, or no re-broadcast with roff not equal to bs */
 };
 
 /* The refusal in an answer: 0, GEMTHATCH_ACCEPTED, where it is a number. */
@@ -117,30 +118,60 @@ static inline uint32_t gemthatch_refusal_of(uint32_t answer)
 /* A refusal in a few words, for a log. */
 static inline const char *gemthatch_refusal_text(uint32_t refusal)
 {
-    static const char *const texts[] = {
-        "accepted", "wrong size", "no superframe block reservation", "bad rate code", "roff outside 2..255", "bs outside 2..255",
-        "bo outside -127..127", "bad rate list", "address above 27 bits", "blg, bt, superframes or length out of range",
-        "figure does not fit its parameter", "table not sound", "behind now", "above the last slot", "rate outside 1..60", "no superframes",
-        "already held", "table full", "reuse limit outside 0..4096", "bad search range", "wanted or n outside 1..16", "no block to use",
-        "no such parameter"
-    };
-    return refusal < sizeof texts / sizeof texts[0] ? texts[refusal] : "no refusal of this library";
+    switch (refusal) {
+    case GEMTHATCH_ACCEPTED: return "accepted";
+    case GEMTHATCH_REFUSED_SIZE: return "wrong size";
+    case GEMTHATCH_REFUSED_EXTENDED_ID: return "no superframe block reservation";
+    case GEMTHATCH_REFUSED_CODE: return "bad rate code";
+    case GEMTHATCH_REFUSED_ROFF: return "roff outside 2..255";
+    case GEMTHATCH_REFUSED_BS: return "bs outside 2..255";
+    case GEMTHATCH_REFUSED_BO: return "bo outside -127..127";
+    case GEMTHATCH_REFUSED_RATE_LIST: return "bad rate list";
+    case GEMTHATCH_REFUSED_ADDRESS: return "address above 27 bits";
+    case GEMTHATCH_REFUSED_FIELD: return "blg, bt, superframes or length out of range";
+    case GEMTHATCH_REFUSED_FIGURE: return "figure does not fit its parameter";
+    case GEMTHATCH_REFUSED_NOT_SOUND: return "table not sound";
+    case GEMTHATCH_REFUSED_BEHIND: return "behind now";
+    case GEMTHATCH_REFUSED_LATE: return "above the last slot";
+    case GEMTHATCH_REFUSED_RATE: return "rate outside 1..60";
+    case GEMTHATCH_REFUSED_NO_SUPERFRAMES: return "no superframes";
+    case GEMTHATCH_REFUSED_HELD: return "already held";
+    case GEMTHATCH_REFUSED_FULL: return "table full";
+    case GEMTHATCH_REFUSED_LIMIT: return "reuse limit outside 0..4096";
+    case GEMTHATCH_REFUSED_SEARCH_RANGE: return "bad search range";
+    case GEMTHATCH_REFUSED_WANTED: return "wanted or n outside 1..16";
+    case GEMTHATCH_REFUSED_NONE: return "no block to use";
+    case GEMTHATCH_REFUSED_PARAMETER: return "no such parameter";
+    case GEMTHATCH_REFUSED_DESTINATION: return "destination does not go with roff and bs";
+    default: return "no refusal of this library";
+    }
 }
 
 /* ---- the nine octets ---------------------------------------------------------------------------------------------------------------- */
 
-/* The fields of a superframe block reservation. */
+/* The kind of a destination. */
+enum gemthatch_destination {
+    GEMTHATCH_DESTINATION_ADDRESS = 0,       /* the station of address d is to re-broadcast the burst; roff does not equal bs */
+    GEMTHATCH_DESTINATION_NO_REBROADCAST = 1 /* nobody is, which the burst says by roff equal to bs; it has no address */
+};
+
+/*
+ * The fields of a superframe block reservation. Of d and information, the one that the kind does not use is 0 in a reading. The octet
+ * behind information is a gap that may hold anything: compare two blocks by their fields.
+ */
 typedef struct gemthatch_block {
-    uint32_t d;    /* destination address, below 2^27 */
-    uint32_t blg;  /* 0..31, one less than the slots of a block */
-    uint32_t roff; /* re-broadcast offset, 2..255 */
-    uint32_t br;   /* block repeat rate code, 0..13 without 7 */
-    uint32_t bs;   /* block start, 2..255 */
-    int32_t bo;    /* block offset, -127..127; it moves no block */
-    uint32_t bt;   /* 0..3 */
+    uint32_t destination;   /* the kind of destination; at the writer any other number is read as an address */
+    uint32_t d;             /* the destination's address, below 2^27 */
+    uint8_t information[3]; /* with no re-broadcast: the three octets n-10 to n-8, which belong to the burst's information field */
+    uint32_t blg;           /* 0..31, one less than the slots of a block */
+    uint32_t roff;          /* re-broadcast offset, 2..255 */
+    uint32_t br;            /* block repeat rate code, 0..13 without 7 */
+    uint32_t bs;            /* block start, 2..255 */
+    int32_t bo;             /* block offset, -127..127; it moves no block */
+    uint32_t bt;            /* 0..3 */
 } gemthatch_block;
 
-/* What reading gives: the bare refusal, 0 where it is accepted, and the fields, all 0 where it is refused. */
+/* What reading gives: the bare refusal, 0 where it is accepted, and the fields; where it is refused address 0, and all others 0. */
 typedef struct gemthatch_reading {
     uint32_t refusal;
     gemthatch_block block;
@@ -153,15 +184,19 @@ typedef struct gemthatch_writing {
 } gemthatch_writing;
 
 /*
- * Reads a reservation. The reserved bits (octet 6 bits 8-5, octet 9 bit 3) are ignored.
+ * Reads a reservation. The reserved bits (octet 6 bits 8-5, octet 9 bit 3, and octet 4 bits 3-1 where roff equals bs) are ignored.
+ * Where roff equals bs, octets 1 to 3 are no address, whatever they look like, but the end of the information field:
+ *     FF FF FF FF FF 0D FF 7F 13  is destination 1, d 0, information FF FF FF, blg 31, roff 255, br 13, bs 255, bo 127, bt 3
+ * A host puts the three octets behind those that it has of the information field, looks at no d, and reserves by br, bs and blg as from any
+ * other burst.
  * Refused, in this order: 1 octets not 9, 2, 3, 4, 5, 6.
  */
 GEMTHATCH_MUST_USE gemthatch_reading gemthatch_read(const uint8_t *burst, size_t octets);
 
 /*
- * Writes a reservation, the reserved bits 0. Reading what was written gives the same fields; writing what was read gives the same octets
- * with the reserved bits cleared.
- * Refused, in this order: 8 d, 9 blg or bt, 3, 4, 5, 6.
+ * Writes a reservation, the reserved bits 0. Of d and information, the one that the destination's kind does not use is ignored.
+ * Reading what was written gives the same fields; writing what was read gives the same octets with the reserved bits cleared.
+ * Refused, in this order: 8 d of an address, 9 blg or bt, 3, 4, 5, 6, 34.
  */
 GEMTHATCH_MUST_USE gemthatch_writing gemthatch_write(gemthatch_block block);
 

@@ -50,7 +50,9 @@ static uint32_t search_last(uint32_t hi, uint32_t length, uint32_t wanted, size_
 static gemthatch_block block_of(uint32_t d, uint32_t blg, uint32_t roff, uint32_t br, uint32_t bs, int32_t bo, uint32_t bt)
 {
     gemthatch_block block;
+    block.destination = GEMTHATCH_DESTINATION_ADDRESS;
     block.d = d;
+    memset(block.information, 0, sizeof block.information);
     block.blg = blg;
     block.roff = roff;
     block.br = br;
@@ -60,19 +62,55 @@ static gemthatch_block block_of(uint32_t d, uint32_t blg, uint32_t roff, uint32_
     return block;
 }
 
+/* Field by field, since the octet behind the three is nobody's. */
+static int same_block(gemthatch_block a, gemthatch_block b)
+{
+    return a.destination == b.destination && a.d == b.d && memcmp(a.information, b.information, sizeof a.information) == 0 &&
+           a.blg == b.blg && a.roff == b.roff && a.br == b.br && a.bs == b.bs && a.bo == b.bo && a.bt == b.bt;
+}
+
+/* The three octets of a burst that nobody is to re-broadcast. */
+static void destinations(void)
+{
+    static const uint8_t burst[GEMTHATCH_BURST_OCTETS] = { 0x41, 0x54, 0x43, 0x27, 0x05, 0x03, 0x05, 0xFE, 0x12 };
+    gemthatch_block block = block_of(0, 4, 5, 3, 5, -2, 2);
+    gemthatch_writing written;
+    check(sizeof block.information == 3u && sizeof block == 36u && sizeof(gemthatch_reading) == 40u, __LINE__);
+    check(offsetof(gemthatch_block, destination) == 0u && offsetof(gemthatch_block, d) == 4u, __LINE__);
+    check(offsetof(gemthatch_block, information) == 8u && offsetof(gemthatch_block, blg) == 12u, __LINE__);
+    check(offsetof(gemthatch_block, roff) == 16u && offsetof(gemthatch_block, br) == 20u, __LINE__);
+    check(offsetof(gemthatch_block, bs) == 24u && offsetof(gemthatch_block, bo) == 28u, __LINE__);
+    check(offsetof(gemthatch_block, bt) == 32u && offsetof(gemthatch_reading, block) == 4u, __LINE__);
+    IS(gemthatch_write(block).refusal, (uint32_t)GEMTHATCH_REFUSED_DESTINATION);
+    block.destination = GEMTHATCH_DESTINATION_NO_REBROADCAST;
+    memcpy(block.information, "ATC", 3u);
+    check(same_block(gemthatch_read(burst, sizeof burst).block, block), __LINE__);
+    block.d = UINT32_MAX; /* ignored */
+    written = gemthatch_write(block);
+    IS(written.refusal, 0u);
+    check(memcmp(written.octets, burst, 3u) == 0 && written.octets[3] == 0x20 && written.octets[4] == 5, __LINE__);
+    block.roff = 6;
+    IS(gemthatch_write(block).refusal, (uint32_t)GEMTHATCH_REFUSED_DESTINATION);
+    /* Any other kind is an address. */
+    block.destination = 2u;
+    IS(gemthatch_write(block).refusal, (uint32_t)GEMTHATCH_REFUSED_ADDRESS);
+    block.d = GEMTHATCH_STATION_MAX;
+    IS(gemthatch_write(block).refusal, 0u);
+}
+
 static void bursts(void)
 {
     static const uint8_t rates[GEMTHATCH_RATES] = GEMTHATCH_TABLE_1_33;
     /* The technical manual's Table 1-33 once more; 0 where it has no rate. */
     static const uint32_t manual[16] = { 1, 2, 3, 4, 5, 6, 8, 0, 10, 12, 15, 20, 30, 60, 0, 0 };
-    const gemthatch_block block = block_of(GEMTHATCH_STATION_MAX, GEMTHATCH_LENGTH_MAX - 1u, 255u, 13u, GEMTHATCH_BS_MAX, -127, 3u);
+    const gemthatch_block block = block_of(GEMTHATCH_STATION_MAX, GEMTHATCH_LENGTH_MAX - 1u, 254u, 13u, GEMTHATCH_BS_MAX, -127, 3u);
     gemthatch_writing written = gemthatch_write(block);
     gemthatch_reading read = gemthatch_read(written.octets, sizeof written.octets);
     uint32_t code;
     IS(sizeof written.octets, GEMTHATCH_BURST_OCTETS);
     IS(written.refusal, 0u);
     IS(read.refusal, 0u);
-    IS(memcmp(&read.block, &block, sizeof block), 0);
+    check(same_block(read.block, block), __LINE__);
     IS(gemthatch_read(written.octets, GEMTHATCH_BURST_OCTETS - 1u).refusal, (uint32_t)GEMTHATCH_REFUSED_SIZE);
     written.octets[8] = 0;
     IS(gemthatch_read(written.octets, sizeof written.octets).refusal, (uint32_t)GEMTHATCH_REFUSED_EXTENDED_ID);
@@ -242,18 +280,27 @@ static void tallies(void)
     check(counts(full, 0u, most, most) && counts(full, GEMTHATCH_REFUSED + 1u, most, most), __LINE__);
 }
 
+static int is_refusal(uint32_t number)
+{
+    return number <= GEMTHATCH_REFUSED_PARAMETER || number == GEMTHATCH_REFUSED_DESTINATION;
+}
+
 int main(void)
 {
-    uint32_t refusal;
+    uint32_t refusal, other;
     bursts();
+    destinations();
     parameters();
     tables();
     searches();
     walks();
     tallies();
-    /* Every refusal has a text of its own. */
-    for (refusal = 0; refusal <= 22u; refusal++)
-        check(strcmp(gemthatch_refusal_text(refusal), gemthatch_refusal_text(refusal + 1u)) != 0, __LINE__);
+    /* Every refusal has a text of its own, and no other number has one. */
+    for (refusal = 0; refusal <= GEMTHATCH_REFUSED_DESTINATION; refusal++) {
+        check((strcmp(gemthatch_refusal_text(refusal), gemthatch_refusal_text(UINT32_MAX)) != 0) == is_refusal(refusal), __LINE__);
+        for (other = 0; other < refusal && is_refusal(refusal); other++)
+            check(strcmp(gemthatch_refusal_text(refusal), gemthatch_refusal_text(other)) != 0, __LINE__);
+    }
     IS(gemthatch_refusal_of(GEMTHATCH_REFUSED - 1u), 0u);
     IS(gemthatch_refusal_of(GEMTHATCH_REFUSED + 22u), (uint32_t)GEMTHATCH_REFUSED_PARAMETER);
     return failed;

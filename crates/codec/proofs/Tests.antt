@@ -1,8 +1,8 @@
 -- What the tests of reading and writing tell of the fields. Assumes nothing.
-use Prim.Native.Nat.{ℕ, _≤_, _<_, _^_}
+use Prim.Native.Nat.{ℕ, _^_, _≤_, _<_}
 use mathlib.Core.Path.{_≡_, refl, sym, _∙_, subst}
 use mathlib.Core.Bool.{Bool, true, false, not, _||_}
-use mathlib.Core.List.{List, _∷_}
+use mathlib.Core.List.{List, _∷_, _++_}
 use native.Mathlib.Omega.{arith}
 use borrow.Author.Tests.{eq-eqb, ne-eqb, lt-leb, lt-ltb, le-ltb, leb-false, ltb-false, eqb-true, not-false}
 use lib.Dec.{eqb, leb, ltb}
@@ -10,11 +10,11 @@ use lib.ListN.{length}
 use Rattle.octets.specs.Complement.{beyond127}
 use Rattle.octets.specs.Octets.{AreOctets}
 use Rattle.octets.specs.Refusals.{firstOf, outside}
-use Rattle.octets.proofs.Refusals.{firstOf-cons, firstOf-zero, firstOf-most, answer-accepted, answer-says, or-eq-false, outside-false}
+use Rattle.octets.proofs.Refusals.{firstOf-cons, firstOf-zero, firstOf-most, firstOf-append, firstOf-stop, answer-accepted, answer-says, by-test, or-eq-false, outside-false}
 use Rattle.codec.specs.declared.Block.{Block}
 use Rattle.codec.specs.declared.Reading.{Reading}
 use Rattle.codec.specs.declared.Writing.{Writing}
-use Rattle.codec.specs.NineOctets.{octet, bits, blockOf, badCode, fieldTests, readTests, writeTests, reading, refusedReading, writing, refusedWriting}
+use Rattle.codec.specs.NineOctets.{octet, bits, noRebroadcast, addressOf, destinationOf, blockOf, badCode, badAddress, misplaced, fieldTests, destinationTests, readTests, writeTests, reading, refusedReading, writing, refusedWriting}
 use Rattle.codec.specs.Steps.{Fitting}
 
 -- ---- the refusal by the tests that led to it
@@ -70,10 +70,21 @@ module _ (n : ℕ) where
   pub octet-inside : 2 ≤ n → n < 256 → outside 2 255 n ≡ false
   octet-inside l h = simp (le-ltb n 2 l, le-ltb 255 n (omega arith))
 
--- where d, blg and bt fit, writing is refused for what reading is
-pub write-fields : (b : Block) → b .d < 2 ^ 27 → b .blg ≤ 31 → b .bt ≤ 3 → firstOf (fieldTests b) ≡ firstOf (writeTests b)
-unfolding writeTests
-write-fields b d blg bt = simp (lt-leb _ _ d, le-ltb _ _ blg, le-ltb _ _ bt)
+-- where d, blg and bt fit
+module _ (b : Block) (d : badAddress (b .d) ≡ false) (blg-bt : (ltb 31 (b .blg) || ltb 3 (b .bt)) ≡ false) where
+  -- writing is refused for what reading is, and then for a destination that is misplaced
+  write-rest : firstOf (fieldTests b ++ destinationTests b) ≡ firstOf (writeTests b)
+  unfolding writeTests
+  write-rest = simp (d, blg-bt)
+
+  -- so a refusal of the fields comes first
+  pub write-fields : (firstOf (fieldTests b) ≡ 0 → ⊥) → firstOf (fieldTests b) ≡ firstOf (writeTests b)
+  write-fields n = sym (firstOf-stop (fieldTests b) (destinationTests b) n) ∙ write-rest
+
+  -- and where they call for none, the destination tells
+  pub write-destination : firstOf (fieldTests b) ≡ 0 → firstOf (destinationTests b) ≡ firstOf (writeTests b)
+  unfolding fieldTests
+  write-destination z = sym (firstOf-append (fieldTests b) (destinationTests b) refl z) ∙ write-rest
 
 -- ---- the refusal that an answer says
 
@@ -92,17 +103,17 @@ writing-refusal b = answer-says _ refusedWriting (λ (x : Writing). x .refusal) 
 
 -- ---- what is not refused
 
--- fields that are written fit their bits
-pub write-passed : (b : Block) → firstOf (writeTests b) ≡ 0 → Fitting b × (firstOf (fieldTests b) ≡ 0)
+-- fields that are written fit their bits, and the destination is not misplaced
+pub write-passed : (b : Block) → firstOf (writeTests b) ≡ 0 → Fitting b × (firstOf (fieldTests b) ≡ 0) × (misplaced (b .d) (b .roff) (b .bs) ≡ false)
 unfolding writeTests fieldTests
 write-passed b h =
     let nine : ℕ × Bool = (9, ltb 31 (b .blg) || ltb 3 (b .bt)) in
-    let p8 = firstOf-cons (8, leb (2 ^ 27) (b .d)) (nine ∷ fieldTests b) refl h in
-    let p9 = firstOf-cons nine (fieldTests b) (p8 .1) (p8 .2) in
-    let f = firstOf-zero (fieldTests b) refl (p9 .2) in
+    let p8 = firstOf-cons (8, badAddress (b .d)) (nine ∷ fieldTests b ++ destinationTests b) refl h in
+    let p9 = firstOf-cons nine (fieldTests b ++ destinationTests b) (p8 .1) (p8 .2) in
+    let f = firstOf-zero (fieldTests b ++ destinationTests b) refl (p9 .2) in
     let blg-bt = or-eq-false (ltb 31 (b .blg)) (ltb 3 (b .bt)) (p9 .0) in (
       record {
-        d-low = leb-false (2 ^ 27) (b .d) (p8 .0);
+        d-good = p8 .0;
         blg-low = ltb-false 31 (b .blg) (blg-bt .0);
         roff-low = outside-false 2 255 (b .roff) (f .1 .0) .1;
         br-low = omega (arith, leb-false 14 (b .br) (or-eq-false (eqb (b .br) 7) (leb 14 (b .br)) (f .0) .1));
@@ -110,7 +121,8 @@ write-passed b h =
         bo-in = f .1 .1 .1 .0;
         bt-low = ltb-false 3 (b .bt) (blg-bt .1);
       },
-      p9 .2,
+      sym (field-0 b (f .0) (f .1 .0) (f .1 .1 .0) (f .1 .1 .1 .0)),
+      f .1 .1 .1 .1 .0,
     )
 
 -- octets that are read are nine, with the right extended ID and good fields
@@ -123,12 +135,23 @@ read-passed s h =
     let p2 = firstOf-cons two (fieldTests (blockOf s)) (p1 .1) (p1 .2) in
     (eqb-true _ _ (not-false _ (p1 .0)), eqb-true _ _ (not-false _ (p2 .0)), p2 .2)
 
+-- the address of octets has 27 bits
+destinationOf-good : (s : List ℕ) → AreOctets s → badAddress (destinationOf s) ≡ false
+destinationOf-good s are =
+    let d = addressOf (octet 1 s) (octet 2 s) (octet 3 s) (octet 4 s) in
+    let low : d < 2 ^ 27 = omega (arith, are 0, are 1, are 2) in
+    by-test (noRebroadcast (octet 5 s) (octet 7 s)) (λ e. simp e) (λ e. rw e (lt-leb (2 ^ 27) d low))
+
+-- their destination is the one that roff and bs call for
+pub destinationOf-placed : (s : List ℕ) → misplaced (destinationOf s) (octet 5 s) (octet 7 s) ≡ false
+destinationOf-placed s = by-test (noRebroadcast (octet 5 s) (octet 7 s)) (λ e. simp e) (λ e. simp e)
+
 -- the fields of octets fit again
 pub block-fitting : (s : List ℕ) → AreOctets s → firstOf (fieldTests (blockOf s)) ≡ 0 → Fitting (blockOf s)
 unfolding fieldTests
 block-fitting s are h =
     record {
-      d-low = omega (arith, are 0, are 1, are 2);
+      d-good = destinationOf-good s are;
       blg-low = omega arith;
       roff-low = omega (arith, are 4);
       br-low = omega arith;

@@ -1,4 +1,5 @@
 // The nine octets of a superframe block reservation, read and written; the rate lookup; the parameter check.
+ghost use Prim.Native.Nat.{_<_};
 ghost use mathlib.Core.Path.{_≡_};
 ghost use mathlib.Core.Bool.{false, cond};
 ghost use mathlib.Core.List.{[], _∷_};
@@ -6,7 +7,7 @@ ghost use lib.Dec.{leb, eqb};
 ghost use Rattle.octets.specs.Lists.{every};
 ghost use Rattle.octets.specs.Complement.{twosOf, beyond127};
 ghost use Rattle.octets.specs.Refusals.{firstOf};
-ghost use Rattle.codec.specs.NineOctets.{bits, badCode, fieldTests, writeTests, blockOf, octetsOf, reading, refusedReading, writing};
+ghost use Rattle.codec.specs.NineOctets.{bits, addressOf, blockWith, badCode, badAddress, misplaced, fieldTests, destinationTests, writeTests, octets1to3, bits3to1, octetsOf, refusedReading, reading, writing};
 ghost use Rattle.codec.specs.Rates.{badList, rateLookup, refusedLookup};
 ghost use Rattle.codec.specs.Parameters.{unknown, byRow, parameterTests, defaultLookup};
 ghost use Rattle.codec.specs.Claims.{Claims};
@@ -14,10 +15,16 @@ ghost use Rattle.codec.specs.Steps.{Fitting, columns};
 
 // ---- the nine octets
 
-// The fields of a reservation. It and what reading and writing give are laid out as in C: they cross to a C host as they are.
-#[repr(C)]
+// Who is to re-broadcast the reservation: the station of an address, or nobody, which is said by a re-broadcast offset equal to bs. Then
+// the three octets before blg's belong to the information field, and are kept as they stand.
+pub enum Destination {
+    Address(u32),
+    NoRebroadcast(u8, u8, u8),
+}
+
+// The fields of a reservation.
 pub struct Block {
-    pub d: u32,
+    pub d: Destination,
     pub blg: u32,
     pub roff: u32,
     pub br: u32,
@@ -26,14 +33,14 @@ pub struct Block {
     pub bt: u32,
 }
 
-// What reading gives: the refusal, 0 for none, and the fields, all 0 where it is refused.
-#[repr(C)]
+// What reading gives: the refusal, 0 for none, and the fields, address 0 and all others 0 where it is refused.
 pub struct Reading {
     pub refusal: u32,
     pub block: Block,
 }
 
-// What writing gives: the refusal, 0 for none, and the nine octets, all 0 where it is refused.
+// What writing gives: the refusal, 0 for none, and the nine octets, all 0 where it is refused. Laid out as in C: it crosses to a C host as
+// it is.
 #[repr(C)]
 pub struct Writing {
     pub refusal: u32,
@@ -98,12 +105,20 @@ fn extended_id(octet9: u8) -> u8
     octet9 / 8
 }
 
-// The fields, out of the octets one by one.
-fn fields(o1: u8, o2: u8, o3: u8, o4: u8, o5: u8, o6: u8, o7: u8, o8: u8, o9: u8) -> Block
-    ensures { λ r. ⌜ r ≡ blockOf (o1 ∷ o2 ∷ o3 ∷ o4 ∷ o5 ∷ o6 ∷ o7 ∷ o8 ∷ o9 ∷ []) ⌝ }
+// The address, which octets 1 to 4 hold.
+fn address(o1: u8, o2: u8, o3: u8, o4: u8) -> u32
+    ensures { λ r. ⌜ r ≡ addressOf o1 o2 o3 o4 ⌝ }
+{
+    let high = high_bits(o4);
+    high * 16777216 + (o1 as u32) * 65536 + (o2 as u32) * 256 + (o3 as u32)
+}
+
+// The fields beside a destination, out of octets 4 to 9 one by one.
+fn fields(d: Destination, o4: u8, o5: u8, o6: u8, o7: u8, o8: u8, o9: u8) -> Block
+    ensures { λ r. ⌜ r ≡ blockWith d (0 ∷ 0 ∷ 0 ∷ o4 ∷ o5 ∷ o6 ∷ o7 ∷ o8 ∷ o9 ∷ []) ⌝ }
 {
     Block {
-        d: high_bits(o4) * 16777216 + (o1 as u32) * 65536 + (o2 as u32) * 256 + (o3 as u32),
+        d,
         blg: (o4 as u32) / 8,
         roff: o5 as u32,
         br: rate_code(o6),
@@ -113,14 +128,14 @@ fn fields(o1: u8, o2: u8, o3: u8, o4: u8, o5: u8, o6: u8, o7: u8, o8: u8, o9: u8
     }
 }
 
-// A reading that is refused: its number, and all fields 0.
+// A reading that is refused: its number, address 0, and all other fields 0.
 pub fn refused_reading(n: u32) -> Reading
     ensures { λ r. ⌜ r ≡ refusedReading n ⌝ }
 {
     Reading {
         refusal: n,
         block: Block {
-            d: 0,
+            d: Destination::Address(0),
             blg: 0,
             roff: 0,
             br: 0,
@@ -132,7 +147,7 @@ pub fn refused_reading(n: u32) -> Reading
 }
 
 // Reads a reservation. Refused, in this order: 1, 2, 3, 4, 5, 6. The octets are judged before the fields are built, and no octet says a
-// number too high for its field.
+// number too high for its field. Each kind of destination leaves by an exit of its own, so that it never has to be packed.
 pub fn read(octets: &[u8]) -> Reading
     ensures { λ r. ⌜ r ≡ reading (now (octets .entry)) ⌝ }
 {
@@ -155,10 +170,25 @@ pub fn read(octets: &[u8]) -> Reading
     if octets[7] == 128 {
         return refused_reading(6);
     }
-    let b = fields(
-        octets[0],
-        octets[1],
-        octets[2],
+    if octets[4] == octets[6] {
+        let d = Destination::NoRebroadcast(octets[0], octets[1], octets[2]);
+        let not_rebroadcast = fields(
+            d,
+            octets[3],
+            octets[4],
+            octets[5],
+            octets[6],
+            octets[7],
+            octets[8],
+        );
+        return Reading {
+            refusal: 0,
+            block: not_rebroadcast,
+        };
+    }
+    let d = Destination::Address(address(octets[0], octets[1], octets[2], octets[3]));
+    let addressed = fields(
+        d,
         octets[3],
         octets[4],
         octets[5],
@@ -168,8 +198,35 @@ pub fn read(octets: &[u8]) -> Reading
     );
     Reading {
         refusal: 0,
-        block: b,
+        block: addressed,
     }
+}
+
+fn bad_address(d: Destination) -> bool
+    ensures { λ r. ⌜ r ≡ badAddress d ⌝ }
+{
+    match d {
+        Destination::Address(a) => 134217728 <= a,
+        Destination::NoRebroadcast(_, _, _) => false,
+    }
+}
+
+// Whether an address comes with roff equal to bs, or octets otherwise.
+fn misplaced(d: Destination, roff: u32, bs: u32) -> bool
+    ensures { λ r. ⌜ r ≡ misplaced d roff bs ⌝ }
+{
+    match d {
+        Destination::Address(_) => roff == bs,
+        Destination::NoRebroadcast(_, _, _) => roff != bs,
+    }
+}
+
+// The refusal that the destination calls for beside roff and bs, 0 for none.
+fn judge_destination(b: Block) -> u32
+    ensures { λ r. ⌜ r ≡ firstOf (destinationTests b) ⌝ }
+{
+    let d = b.d;
+    if misplaced(d, b.roff, b.bs) { 34 } else { 0 }
 }
 
 // The refusal that a block calls for, 0 for none.
@@ -179,25 +236,30 @@ fn judge_block(b: Block) -> u32
     let d = b.d;
     let blg = b.blg;
     let bt = b.bt;
-    if 134217728 <= d {
+    if bad_address(d) {
         return 8;
     }
     if (31 < blg) | (3 < bt) {
         return 9;
     }
-    judge_fields(b)
+    let by_fields = judge_fields(b);
+    let by_destination = judge_destination(b);
+    if by_fields != 0 {
+        return by_fields;
+    }
+    by_destination
 }
 
-// The octets that hold a block whose fields fit.
-fn store(b: Block) -> [u8; 9]
-    requires { ⌜ Fitting b ⌝ }
+// The octets that hold a block whose fields fit, by what its destination puts into octets 1 to 3 and into bits 3-1 of octet 4.
+fn store_after(o1: u8, o2: u8, o3: u8, high: u32, b: Block) -> [u8; 9]
+    requires { ⌜ (octets1to3 (b .d) ≡ o1 ∷ o2 ∷ o3 ∷ []) × (bits3to1 (b .d) ≡ high) × (high < 8) × Fitting b ⌝ }
     ensures { λ r. ⌜ r ≡ octetsOf b ⌝ }
 {
     [
-        (b.d / 65536 % 256) as u8,
-        (b.d / 256 % 256) as u8,
-        (b.d % 256) as u8,
-        (b.blg * 8 + b.d / 16777216 % 8) as u8,
+        o1,
+        o2,
+        o3,
+        (b.blg * 8 + high) as u8,
         b.roff as u8,
         b.br as u8,
         b.bs as u8,
@@ -206,7 +268,25 @@ fn store(b: Block) -> [u8; 9]
     ]
 }
 
-// Writes a reservation. Refused, in this order: 8, 9, 3, 4, 5, 6.
+// The octets that hold a block whose fields fit.
+fn store(b: Block) -> [u8; 9]
+    requires { ⌜ Fitting b ⌝ }
+    ensures { λ r. ⌜ r ≡ octetsOf b ⌝ }
+{
+    let d = b.d;
+    match d {
+        Destination::Address(a) => store_after(
+            (a / 65536 % 256) as u8,
+            (a / 256 % 256) as u8,
+            (a % 256) as u8,
+            a / 16777216 % 8,
+            b,
+        ),
+        Destination::NoRebroadcast(o1, o2, o3) => store_after(o1, o2, o3, 0, b),
+    }
+}
+
+// Writes a reservation. Refused, in this order: 8, 9, 3, 4, 5, 6, 34.
 pub fn write(b: Block) -> Writing
     ensures { λ r. ⌜ r ≡ writing b ⌝ }
 {

@@ -1,3 +1,4 @@
+pub mod Blocks
 pub mod Most
 pub mod Put
 pub mod Places

@@ -4,6 +4,7 @@ use mathlib.Core.Path.{_≡_}
 use mathlib.Core.Bool.{false, cond}
 use mathlib.Core.List.{List}
 use lib.Dec.{leb}
+use Rattle.codec.specs.declared.Block.{Block}
 use Rattle.codec.specs.Rates.{rateLookup}
 use Rattle.sound.specs.Sound.{Channel}
 use Rattle.table.specs.declared.State.{State}
@@ -12,7 +13,7 @@ use Rattle.table.specs.Memory.{channel, says, returned, openRefusal, openReturn
 use Rattle.table.specs.Slots.{slotAnswer, slotSaid}
 use Rattle.search.specs.declared.Query.{Query}
 use Rattle.search.specs.Search.{searched, picked}
-use Rattle.gemthatch.specs.OverC.{overC, callNumber}
+use Rattle.gemthatch.specs.OverC.{hostBlock, blockFrom, overC, callNumber}
 
 -- ---- what the host makes of a number
 
@@ -37,6 +38,10 @@ abbrev pub formedByOpen : ℕ → ℕ → State
 formedByOpen m1 x = cond (leb 2_000_000_000 x) (record { m1 = 0; now = 0; count = 0 }) (record { m1 = m1; now = 0; count = 0 })
 
 -- ---- the claims
+
+-- a block that a C host was given and hands over again is the same block
+abbrev pub BlockHandedBack : Type 0
+BlockHandedBack = (b : Block) → blockFrom (hostBlock b) ≡ b
 
 -- the state that the host forms from an answer is the state that the method hands back
 abbrev pub StateFormed : Type 0
@@ -71,6 +76,7 @@ abbrev pub PickSmall : Type 0
 PickSmall = (n r : ℕ) → picked n r .place < 16
 
 pub record Claims : Type 0 where
+  pub block-handed-back : BlockHandedBack
   pub state-formed : StateFormed
   pub state-opened : StateOpened
   pub refusal-told : RefusalTold

@@ -1,9 +1,16 @@
--- What goes over C: the state as three numbers, a call's answer as one, and a search's list as octets.
+-- What goes over C: a block with its destination's kind as a number, the state as three numbers, a call's answer as one, and a search's list as octets.
 use Prim.Native.Nat.{ℕ, _+_, _/_}
+use mathlib.Core.Bool.{cond}
 use mathlib.Core.List.{List, [], _∷_, _++_}
+use lib.Dec.{eqb}
 use lib.Ieee.{Float}
+use lib.ListN.{getD}
 use Rattle.octets.specs.Octets.{little, holdsOnly}
 use Rattle.octets.specs.Refusals.{answer}
+use Rattle.codec.specs.declared.Destination.{Destination}
+use Rattle.codec.specs.declared.Destination.the-variants.{Address, NoRebroadcast}
+use Rattle.codec.specs.declared.Block.{Block}
+use Rattle.codec.specs.declared.Reading.{Reading}
 use Rattle.distance.specs.Distances.{distanceOf}
 use Rattle.record.specs.Record.{blank}
 use Rattle.sound.specs.Sound.{Channel}
@@ -16,15 +23,71 @@ use Rattle.walk.specs.declared.Handed.the-variants.{One, NoMore}
 use Rattle.walk.specs.Walk.{recordAt}
 use Rattle.search.specs.declared.Query.{Query}
 use Rattle.search.specs.Search.{found, searched}
+use Rattle.gemthatch.specs.declared.HostBlock.{HostBlock}
+use Rattle.gemthatch.specs.declared.HostReading.{HostReading}
 use Rattle.gemthatch.specs.declared.Place.{Place}
 
 -- no refusal has a larger number
 abbrev pub largestRefusal : ℕ
-largestRefusal = 22
+largestRefusal = 34
 
 -- the number reported, the slot's state or the number found; refused, 2,000,000,000 plus the refusal's number
 unfoldable pub overC : ℕ → ℕ → ℕ
 overC refusal number = answer refusal number (λ n. 2_000_000_000 + n)
+
+-- ---- a block
+
+-- the kind of a destination: 0 an address, 1 no re-broadcast
+abbrev pub hostKind : Destination → ℕ
+hostKind (Address d) = 0
+hostKind (NoRebroadcast o1 o2 o3) = 1
+
+-- its address, 0 where it has none
+abbrev pub hostAddress : Destination → ℕ
+hostAddress (Address d) = d
+hostAddress (NoRebroadcast o1 o2 o3) = 0
+
+-- its three octets, 0 where it has none
+abbrev pub hostInformation : Destination → List ℕ
+hostInformation (Address d) = 0 ∷ 0 ∷ 0 ∷ []
+hostInformation (NoRebroadcast o1 o2 o3) = o1 ∷ o2 ∷ o3 ∷ []
+
+-- a block as a C host has it
+abbrev pub hostBlock : Block → HostBlock
+hostBlock b =
+    record {
+      destination = hostKind (b .d);
+      d = hostAddress (b .d);
+      information = hostInformation (b .d);
+      blg = b .blg;
+      roff = b .roff;
+      br = b .br;
+      bs = b .bs;
+      bo = b .bo;
+      bt = b .bt;
+    }
+
+-- a reading as a C host has it
+abbrev pub hostReading : Reading → HostReading
+hostReading r = record { refusal = r .refusal; block = hostBlock (r .block) }
+
+-- what C hands over as a kind, an address and three octets: 1 is no re-broadcast, any other an address; what the kind doesn't use is ignored
+abbrev pub destinationFrom : ℕ → ℕ → List ℕ → Destination
+destinationFrom kind d information =
+    cond (eqb kind 1) (NoRebroadcast (getD information 0 0) (getD information 1 0) (getD information 2 0)) (Address d)
+
+-- the block that a C host hands over
+abbrev pub blockFrom : HostBlock → Block
+blockFrom h =
+    record {
+      d = destinationFrom (h .destination) (h .d) (h .information);
+      blg = h .blg;
+      roff = h .roff;
+      br = h .br;
+      bs = h .bs;
+      bo = h .bo;
+      bt = h .bt;
+    }
 
 -- ---- what a call takes
 

@@ -1,6 +1,7 @@
 // What a C host calls, and nothing else: each call hands its numbers and octets to the crate that does the work, and its answer back as
 // one number. include/gemthatch.h is the manual. The state's now is called `time` here, since contracts use that word.
 use codec::Block;
+use codec::Destination;
 use codec::Reading;
 use codec::Writing;
 use record::Rec;
@@ -27,8 +28,30 @@ ghost use Rattle.table.specs.Table.{clock, reserve, distance, wipe};
 ghost use Rattle.table.specs.Memory.{channel, leaves, openRefusal, openLeaves};
 ghost use Rattle.table.specs.Slots.{stateNumber};
 ghost use Rattle.search.specs.Search.{found, searched, picked};
-ghost use Rattle.gemthatch.specs.OverC.{largestRefusal, overC, lent, request, query, callNumber, slotNumber, searchNumber, inOctets, searchList, placeAt};
+ghost use Rattle.gemthatch.specs.OverC.{largestRefusal, overC, hostBlock, hostReading, destinationFrom, blockFrom, lent, request, query, callNumber, slotNumber, searchNumber, inOctets, searchList, placeAt};
 ghost use Rattle.gemthatch.specs.Claims.{Claims};
+
+// The fields of a reservation as a C host has them: the destination's kind, 0 an address and 1 no re-broadcast, the address, the three
+// octets, and the other fields.
+#[repr(C)]
+pub struct HostBlock {
+    pub destination: u32,
+    pub d: u32,
+    pub information: [u8; 3],
+    pub blg: u32,
+    pub roff: u32,
+    pub br: u32,
+    pub bs: u32,
+    pub bo: i32,
+    pub bt: u32,
+}
+
+// What reading gives a C host: the bare refusal, 0 for none, and the fields, all 0 where it is refused.
+#[repr(C)]
+pub struct HostReading {
+    pub refusal: u32,
+    pub block: HostBlock,
+}
 
 // What a walk hands out at a place: the bare refusal, how many records (1, or 0 for no more), and the record, all 0 where there is none.
 #[repr(C)]
@@ -91,26 +114,95 @@ fn search_places(s: State, memory: &[u8], q: Query, starts: &mut [u32], places: 
 
 // ---- the nine octets, the rates, the parameters
 
+// A block for a C host: what its destination's kind does not use is 0.
+fn host_block(b: Block) -> HostBlock
+    ensures { λ r. ⌜ r ≡ hostBlock b ⌝ }
+{
+    let d = b.d;
+    match d {
+        Destination::Address(a) => HostBlock {
+            destination: 0,
+            d: a,
+            information: [0, 0, 0],
+            blg: b.blg,
+            roff: b.roff,
+            br: b.br,
+            bs: b.bs,
+            bo: b.bo,
+            bt: b.bt,
+        },
+        Destination::NoRebroadcast(o1, o2, o3) => HostBlock {
+            destination: 1,
+            d: 0,
+            information: [o1, o2, o3],
+            blg: b.blg,
+            roff: b.roff,
+            br: b.br,
+            bs: b.bs,
+            bo: b.bo,
+            bt: b.bt,
+        },
+    }
+}
+
+fn host_reading(r: Reading) -> HostReading
+    ensures { λ v. ⌜ v ≡ hostReading r ⌝ }
+{
+    let block = host_block(r.block);
+    HostReading {
+        refusal: r.refusal,
+        block,
+    }
+}
+
+// The destination that C hands over as a kind, an address and three octets: 1 is no re-broadcast, any other kind an address.
+fn destination_from(kind: u32, d: u32, information: [u8; 3]) -> Destination
+    ensures { λ r. ⌜ r ≡ destinationFrom kind d information ⌝ }
+{
+    if kind == 1 {
+        return Destination::NoRebroadcast(information[0], information[1], information[2]);
+    }
+    Destination::Address(d)
+}
+
+// The block that C hands over: what its destination's kind does not use is ignored.
+fn block_from(h: HostBlock) -> Block
+    ensures { λ r. ⌜ r ≡ blockFrom h ⌝ }
+{
+    let information = h.information;
+    let d = destination_from(h.destination, h.d, information);
+    Block {
+        d,
+        blg: h.blg,
+        roff: h.roff,
+        br: h.br,
+        bs: h.bs,
+        bo: h.bo,
+        bt: h.bt,
+    }
+}
+
 // Reads a reservation. Refused, in this order: 1, 2, 3, 4, 5, 6.
 #[no_mangle]
-pub extern "C" fn gemthatch_read(octets: &[u8]) -> Reading
-    ensures { λ r. ⌜ r ≡ reading (now (octets .entry)) ⌝ }
+pub extern "C" fn gemthatch_read(octets: &[u8]) -> HostReading
+    ensures { λ r. ⌜ r ≡ hostReading (reading (now (octets .entry))) ⌝ }
 {
     let r = codec::read(octets);
     let refusal = r.refusal;
     // Out by an exit of its own: where the two ways met, every field would first have to find a register.
     if refusal != 0 {
-        return codec::refused_reading(refusal);
+        return host_reading(codec::refused_reading(refusal));
     }
-    r
+    host_reading(r)
 }
 
-// Writes a reservation. Refused, in this order: 8, 9, 3, 4, 5, 6.
+// Writes a reservation. Refused, in this order: 8, 9, 3, 4, 5, 6, 34.
 #[no_mangle]
-pub extern "C" fn gemthatch_write(block: Block) -> Writing
-    ensures { λ r. ⌜ r ≡ writing block ⌝ }
+pub extern "C" fn gemthatch_write(block: HostBlock) -> Writing
+    ensures { λ r. ⌜ r ≡ writing (blockFrom block) ⌝ }
 {
-    codec::write(block)
+    let b = block_from(block);
+    codec::write(b)
 }
 
 // The rate that a code stands for. Refused, in this order: 7, 3.

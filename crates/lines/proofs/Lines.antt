@@ -1,11 +1,11 @@
 -- Laws of a group's line, and of the lines of several groups. Assumes nothing.
-use Prim.Native.Nat.{ℕ, suc, _+_, _≤_}
+use Prim.Native.Nat.{ℕ, suc, _+_, _^_, _≤_}
 use mathlib.Core.Path.{_≡_, refl, sym}
 use mathlib.Core.Bool.{Bool, true, false}
 use mathlib.Core.List.{List, _++_}
 use native.Mathlib.Numerals.{add-one}
 use native.Mathlib.Omega.{arith}
-use borrow.Author.Tests.{eqb-true, eqb-false}
+use borrow.Author.Tests.{eqb-true, eqb-false, leb-false}
 use lib.Dec.{eqb}
 use lib.IntN.{ℤ, pos, negsuc}
 use lib.ListN.{length, length-append}
@@ -13,13 +13,15 @@ use Rattle.octets.specs.Complement.{beyond127}
 use Rattle.octets.specs.Octets.{AreOctets}
 use Rattle.octets.proofs.Complement.{within127}
 use Rattle.octets.proofs.Refusals.{answer-accepted, answer-refused}
+use Rattle.codec.specs.declared.Destination.{Destination}
+use Rattle.codec.specs.declared.Destination.the-variants.{Address, NoRebroadcast}
 use Rattle.codec.specs.declared.Block.{Block}
 use Rattle.codec.specs.Steps.{Fitting}
 use Rattle.codec.specs.declared.Reading.{Reading}
-use Rattle.codec.specs.NineOctets.{reading}
+use Rattle.codec.specs.NineOctets.{badAddress, reading}
 use Rattle.codec.proofs.Tests.{read-fitting, reading-refusal-most}
 use Rattle.lines.specs.Text.{signedDecimal}
-use Rattle.lines.specs.Listing.{blockLine, refusedLine, line, group, firstLines, longest}
+use Rattle.lines.specs.Listing.{destinationText, blockLine, refusedLine, line, group, firstLines, longest}
 use Rattle.lines.proofs.Decimal.{length-decimal}
 
 -- ---- which line
@@ -48,6 +50,12 @@ unfolding signedDecimal
 signedDecimal-short (pos n) h = omega (arith, length-decimal 2 n (omega (arith, within127 (pos n) h)))
 signedDecimal-short (negsuc n) h = omega (arith, length-decimal 2 (suc n) (omega (arith, within127 (negsuc n) h)))
 
+-- what is printed for d has at most nine
+destinationText-short : (d : Destination) → badAddress d ≡ false → length (destinationText d) ≤ 9
+unfolding destinationText
+destinationText-short (Address d) h = omega (arith, length-decimal 8 d (omega (arith, leb-false (2 ^ 27) d h)))
+destinationText-short (NoRebroadcast o1 o2 o3) h = omega arith
+
 -- the line of fields that fit is no longer than `longest`
 blockLine-short : (b : Block) → Fitting b → length (blockLine b) ≤ longest
 unfolding blockLine
@@ -55,7 +63,7 @@ blockLine-short b f =
     simp length-append
     (omega (
       arith,
-      length-decimal 8 (b .d) (omega (arith, f .d-low)),
+      destinationText-short (b .d) (f .d-good),
       length-decimal 1 (b .blg) (omega (arith, f .blg-low)),
       length-decimal 2 (b .roff) (omega (arith, f .roff-low)),
       length-decimal 1 (b .br) (omega (arith, f .br-low)),

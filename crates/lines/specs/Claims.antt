@@ -12,6 +12,10 @@ pub record Claims : Type 0 where
   pub sample :
       listing (0x00 ∷ 0x00 ∷ 0x01 ∷ 0x20 ∷ 0x02 ∷ 0x03 ∷ 0x05 ∷ 0xFE ∷ 0x12 ∷ [])
       ≡ text "d blg roff br bs bo bt\n1 4 2 3 5 -2 2\n"
+  -- document 02's P2, a group with no re-broadcast
+  pub no-rebroadcast :
+      line (0xFF ∷ 0xFF ∷ 0xFF ∷ 0xFF ∷ 0xFF ∷ 0x0D ∷ 0xFF ∷ 0x7F ∷ 0x13 ∷ [])
+      ≡ text "- 31 255 13 255 127 3\n"
   -- empty input prints the header line only
   pub empty : listing [] ≡ header
   -- a group that does not have nine octets, so a short last one

@@ -5,6 +5,8 @@ use mathlib.Core.List.{List, [], _++_}
 use lib.Dec.{leb}
 use lib.ListN.{length, take, drop}
 use Rattle.octets.specs.Refusals.{answer}
+use Rattle.codec.specs.declared.Destination.{Destination}
+use Rattle.codec.specs.declared.Destination.the-variants.{Address, NoRebroadcast}
 use Rattle.codec.specs.declared.Block.{Block}
 use Rattle.codec.specs.NineOctets.{reading}
 use Rattle.lines.specs.Text.{text, decimal, signedDecimal}
@@ -13,10 +15,15 @@ use Rattle.lines.specs.Text.{text, decimal, signedDecimal}
 abbrev pub header : List ℕ
 header = text "d blg roff br bs bo bt\n"
 
+-- what is printed for d: the address, or "-" where there is no re-broadcast
+unfoldable pub destinationText : Destination → List ℕ
+destinationText (Address d) = decimal d
+destinationText (NoRebroadcast o1 o2 o3) = text "-"
+
 -- the fields of a block, a space between two
 unfoldable pub blockLine : Block → List ℕ
 blockLine b =
-    decimal (b .d)
+    destinationText (b .d)
     ++ text " "
     ++ decimal (b .blg)
     ++ text " "
@@ -60,7 +67,7 @@ allLines s = firstLines (groups s) s
 abbrev pub listing : List ℕ → List ℕ
 listing s = header ++ allLines s
 
--- no line is longer than "134217727 31 255 13 255 -127 3" and its end
+-- no line is longer than "134217727 31 255 13 254 -127 3" and its end
 abbrev pub longest : ℕ
 longest = 31
 

@@ -7,12 +7,13 @@ ghost use lib.IntN.{natAbs};
 ghost use lib.ListN.{length};
 ghost use Rattle.octets.specs.Octets.{holdsOnly};
 ghost use Rattle.lines.specs.Text.{decimal, signedDecimal};
-ghost use Rattle.lines.specs.Listing.{header, blockLine, refusedLine, line, group, groups, allLines, longest, linesIn};
+ghost use Rattle.lines.specs.Listing.{header, destinationText, blockLine, refusedLine, line, group, groups, allLines, longest, linesIn};
 ghost use Rattle.lines.specs.Steps.{Room, Wrote, three, field};
 ghost use Rattle.lines.specs.Claims.{Claims};
 use codec::Block;
+use codec::Destination;
 
-// No line is longer: "134217727 31 255 13 255 -127 3" and its end.
+// No line is longer: "134217727 31 255 13 254 -127 3" and its end.
 pub const LONGEST: usize = 31;
 
 fn put(out: &mut [u8], at: usize, b: u8) -> usize
@@ -129,11 +130,26 @@ fn put_signed(out: &mut [u8], at: usize, z: i32) -> usize
     put_field(out, i, n, b' ')
 }
 
+// What is printed for d, and a space.
+fn put_destination(out: &mut [u8], at: usize, d: Destination) -> usize
+    requires { ⌜ Room (now out) at (destinationText d ++ (32 ∷ [])) ⌝ }
+    ensures { λ r. ⌜ Wrote (now (out .entry)) at (destinationText d ++ (32 ∷ [])) r (now (out .exit)) ⌝ }
+{
+    match d {
+        Destination::Address(a) => put_field(out, at, a, b' '),
+        Destination::NoRebroadcast(_, _, _) => {
+            let i = put(out, at, b'-');
+            put(out, i, b' ')
+        }
+    }
+}
+
 fn put_fields(out: &mut [u8], at: usize, b: Block) -> usize
     requires { ⌜ Room (now out) at (blockLine b) ⌝ }
     ensures { λ r. ⌜ Wrote (now (out .entry)) at (blockLine b) r (now (out .exit)) ⌝ }
 {
-    let i = put_field(out, at, b.d, b' ');
+    let d = b.d;
+    let i = put_destination(out, at, d);
     let i = put_field(out, i, b.blg, b' ');
     let i = put_field(out, i, b.roff, b' ');
     let i = put_field(out, i, b.br, b' ');

@@ -67,6 +67,7 @@ marked =
     record {
       p1 = refl;
       p2 = refl;
+      p2-address = refl;
       p3 = refl;
       p4 = refl;
       p5 = ap (map (lastSlot 4500)) (stored _);

@@ -4,6 +4,8 @@ use mathlib.Core.Path.{_≡_}
 use mathlib.Core.Bool.{true, false}
 use mathlib.Core.List.{List, [], _∷_, map}
 use lib.IntN.{ℤ, pos, negsuc}
+use Rattle.codec.specs.declared.Destination.{Destination}
+use Rattle.codec.specs.declared.Destination.the-variants.{Address, NoRebroadcast}
 use Rattle.codec.specs.declared.Reading.{Reading}
 use Rattle.codec.specs.NineOctets.{reading, refusedReading}
 use Rattle.distance.specs.declared.Distance.{Distance}
@@ -24,7 +26,7 @@ use Rattle.search.specs.declared.Query.{Query}
 use Rattle.search.specs.Search.{searchRefusal, found}
 
 -- an accepted reading of the fields d, blg, roff, br, bs, bo, bt
-abbrev pub readAs : ℕ → ℕ → ℕ → ℕ → ℕ → ℤ → ℕ → Reading
+abbrev pub readAs : Destination → ℕ → ℕ → ℕ → ℕ → ℤ → ℕ → Reading
 readAs d blg roff br bs bo bt =
     record { refusal = 0; block = record { d = d; blg = blg; roff = roff; br = br; bs = bs; bo = bo; bt = bt } }
 
@@ -60,9 +62,11 @@ Clocked slot dropped rs =
 
 pub record Marked : Type 0 where
   -- P1 the listing's nine octets
-  pub p1 : reading (0x00 ∷ 0x00 ∷ 0x01 ∷ 0x20 ∷ 0x02 ∷ 0x03 ∷ 0x05 ∷ 0xFE ∷ 0x12 ∷ []) ≡ readAs 1 4 2 3 5 (negsuc 1) 2
-  -- P2 FF FF FF FF FF 0D FF 7F 13: 134217727, 31, 255, 13, 255, 127, 3
-  pub p2 : reading (0xFF ∷ 0xFF ∷ 0xFF ∷ 0xFF ∷ 0xFF ∷ 0x0D ∷ 0xFF ∷ 0x7F ∷ 0x13 ∷ []) ≡ readAs 134217727 31 255 13 255 (pos 127) 3
+  pub p1 : reading (0x00 ∷ 0x00 ∷ 0x01 ∷ 0x20 ∷ 0x02 ∷ 0x03 ∷ 0x05 ∷ 0xFE ∷ 0x12 ∷ []) ≡ readAs (Address 1) 4 2 3 5 (negsuc 1) 2
+  -- P2 FF FF FF FF FF 0D FF 7F 13, no re-broadcast, as request No. 1 has it: FF FF FF, 31, 255, 13, 255, 127, 3
+  pub p2 : reading (0xFF ∷ 0xFF ∷ 0xFF ∷ 0xFF ∷ 0xFF ∷ 0x0D ∷ 0xFF ∷ 0x7F ∷ 0x13 ∷ []) ≡ readAs (NoRebroadcast 0xFF 0xFF 0xFF) 31 255 13 255 (pos 127) 3
+  -- P2 with octet 7 = FE, so that every bit of d is an address's: 134217727, 31, 255, 13, 254, 127, 3
+  pub p2-address : reading (0xFF ∷ 0xFF ∷ 0xFF ∷ 0xFF ∷ 0xFF ∷ 0x0D ∷ 0xFE ∷ 0x7F ∷ 0x13 ∷ []) ≡ readAs (Address 134217727) 31 255 13 254 (pos 127) 3
   -- P3 P1 with octet 8 = 80: refusal 6
   pub p3 : reading (0x00 ∷ 0x00 ∷ 0x01 ∷ 0x20 ∷ 0x02 ∷ 0x03 ∷ 0x05 ∷ 0x80 ∷ 0x12 ∷ []) ≡ refusedReading 6
   -- P4 P1 with octet 7 = 01: refusal 5

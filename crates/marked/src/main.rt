@@ -68,11 +68,11 @@ const P1: [u8; 9] = [0x00, 0x00, 0x01, 0x20, 0x02, 0x03, 0x05, 0xFE, 0x12];
 
 const P2: [u8; 9] = [0xFF, 0xFF, 0xFF, 0xFF, 0xFF, 0x0D, 0xFF, 0x7F, 0x13];
 
-// P1 with another octet k, counted from 1.
-fn p1_with(k: usize, octet: u8) -> [u8; 9]
+// A group with another octet k, counted from 1.
+fn with(group: [u8; 9], k: usize, octet: u8) -> [u8; 9]
     requires { ⌜ (1 ≤ k) × (k ≤ 9) ⌝ }
 {
-    let mut octets = P1;
+    let mut octets = group;
     octets[k - 1] = octet;
     octets
 }
@@ -89,8 +89,9 @@ fn put_group(name: &[u8], octets: &[u8]) {
 fn put_readings() {
     put_group(b"P1", &P1);
     put_group(b"P2", &P2);
-    put_group(b"P3", &p1_with(8, 0x80));
-    put_group(b"P4", &p1_with(7, 0x01));
+    put_group(b"P2 with bs 254:", &with(P2, 7, 0xFE));
+    put_group(b"P3", &with(P1, 8, 0x80));
+    put_group(b"P4", &with(P1, 7, 0x01));
 }
 
 // ---- P5 to P10: record T, alone in its table
@@ -220,10 +221,10 @@ fn put_offsets() {
 
 // ---- slips that the marked cases let through, the parameters' defaults, and 000's example
 
-// P1 and P2 read the same with d bits 27-25 reversed.
+// P1 and P2, with bs 254 too, read the same with d bits 27-25 reversed.
 fn put_d_bits() {
-    put_group(b"d bit 25:", &p1_with(4, 0x21));
-    put_group(b"d bit 27:", &p1_with(4, 0x24));
+    put_group(b"d bit 25:", &with(P1, 4, 0x21));
+    put_group(b"d bit 27:", &with(P1, 4, 0x24));
 }
 
 fn put_default(number: u32) {

@@ -4,7 +4,7 @@
 use std::ptr;
 
 use crate::gemthatch::{self, *};
-use crate::paper::codec::{Fields, GROUP};
+use crate::paper::codec::{Destination, Fields, GROUP};
 use crate::paper::search::Wish;
 use crate::paper::table::{Measure, Record, Reservation, State};
 use crate::paper::tally::Tally;
@@ -90,53 +90,36 @@ fn unchanged<T: PartialEq>(
     }
 }
 
+/// Fields as C has them: what the destination's kind doesn't use is 0.
+pub fn block_of(fields: &Fields) -> Block {
+    let (destination, d, information) = match fields.d {
+        Destination::Address(d) => (0, d, [0; 3]),
+        Destination::NoRebroadcast(information) => (1, 0, information),
+    };
+    Block {
+        destination,
+        d,
+        information,
+        blg: fields.blg,
+        roff: fields.roff,
+        br: fields.br,
+        bs: fields.bs,
+        bo: fields.bo,
+        bt: fields.bt,
+    }
+}
+
 /// The refusal, 0 where accepted, and the fields.
-pub fn read(group: &[u8]) -> Result<(u32, Fields), String> {
+pub fn read(group: &[u8]) -> Result<(u32, Block), String> {
     unchanged(&mut Lent::holding(group), |octets, length| {
         // SAFETY: so many octets are lent for the time of the call.
         let Reading { refusal, block } = unsafe { gemthatch_read(octets, length) };
-        let Block {
-            d,
-            blg,
-            roff,
-            br,
-            bs,
-            bo,
-            bt,
-        } = block;
-        let fields = Fields {
-            d,
-            blg,
-            roff,
-            br,
-            bs,
-            bo,
-            bt,
-        };
-        (refusal, fields)
+        (refusal, block)
     })
 }
 
 /// The refusal, 0 where accepted, and the nine octets.
-pub fn write(fields: &Fields) -> (u32, [u8; GROUP]) {
-    let &Fields {
-        d,
-        blg,
-        roff,
-        br,
-        bs,
-        bo,
-        bt,
-    } = fields;
-    let block = Block {
-        d,
-        blg,
-        roff,
-        br,
-        bs,
-        bo,
-        bt,
-    };
+pub fn write(block: Block) -> (u32, [u8; GROUP]) {
     // SAFETY: nothing is lent.
     let Writing { refusal, octets } = unsafe { gemthatch_write(block) };
     (refusal, octets)

@@ -4,7 +4,9 @@
 #[repr(C)]
 #[derive(Clone, Copy, Debug, Default, PartialEq)]
 pub struct Block {
+    pub destination: u32,
     pub d: u32,
+    pub information: [u8; 3],
     pub blg: u32,
     pub roff: u32,
     pub br: u32,

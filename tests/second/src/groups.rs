@@ -1,14 +1,17 @@
 //! Groups of nine octets to feed to a program.
 
 use crate::draw::Draw;
-use crate::paper::codec::{self, Fields, GROUP};
+use crate::paper::codec::{self, Destination, Fields, GROUP};
 
 /// 00 00 01 20 02 03 05 FE 12
 pub const P1: [u8; GROUP] = [0x00, 0x00, 0x01, 0x20, 0x02, 0x03, 0x05, 0xFE, 0x12];
 
-/// What they carry.
+/// FF FF FF FF FF 0D FF 7F 13
+pub const P2: [u8; GROUP] = [0xFF, 0xFF, 0xFF, 0xFF, 0xFF, 0x0D, 0xFF, 0x7F, 0x13];
+
+/// What P1 carries.
 pub const P1_FIELDS: Fields = Fields {
-    d: 1,
+    d: Destination::Address(1),
     blg: 4,
     roff: 2,
     br: 3,
@@ -20,30 +23,58 @@ pub const P1_FIELDS: Fields = Fields {
 /// Codes that have a meaning.
 const CODES: [u32; 13] = [0, 1, 2, 3, 4, 5, 6, 8, 9, 10, 11, 12, 13];
 
-/// Fields in their ranges, every value alike.
-pub fn fields(draw: &mut Draw) -> Fields {
+/// Fields in their ranges that have an address, every value alike but that roff
+/// isn't bs.
+pub fn addressed(draw: &mut Draw) -> Fields {
+    let bs = 2 + draw.below(254);
+    let roff = 2 + draw.below(253);
     Fields {
-        d: draw.below(1 << 27),
+        d: Destination::Address(draw.below(1 << 27)),
         blg: draw.below(32),
-        roff: 2 + draw.below(254),
+        roff: roff + u32::from(roff >= bs),
         br: draw.one_of(&CODES),
-        bs: 2 + draw.below(254),
+        bs,
         bo: draw.below(255) as i32 - 127,
         bt: draw.below(4),
     }
 }
 
+/// The same that nobody is to re-broadcast: roff is bs.
+pub fn not_rebroadcast(draw: &mut Draw) -> Fields {
+    let fields = addressed(draw);
+    Fields {
+        d: Destination::NoRebroadcast(std::array::from_fn(|_| draw.octet())),
+        roff: fields.bs,
+        ..fields
+    }
+}
+
+/// Fields in their ranges, one in four without a re-broadcast.
+pub fn fields(draw: &mut Draw) -> Fields {
+    match draw.below(4) {
+        0 => not_rebroadcast(draw),
+        _ => addressed(draw),
+    }
+}
+
+/// The octets of fields, their reserved bits at random.
+pub fn octets(fields: &Fields, draw: &mut Draw) -> [u8; GROUP] {
+    codec::octets(fields, std::array::from_fn(|_| draw.octet()))
+}
+
 /// A group that is accepted, its reserved bits at random.
 pub fn accepted(draw: &mut Draw) -> [u8; GROUP] {
     let fields = fields(draw);
-    codec::octets(&fields, draw.octet())
+    octets(&fields, draw)
 }
 
 /// The same with an address of any width, so that short lines come up too.
 fn accepted_of_any_width(draw: &mut Draw) -> [u8; GROUP] {
     let mut fields = fields(draw);
-    fields.d >>= draw.below(28);
-    codec::octets(&fields, draw.octet())
+    if let Destination::Address(d) = &mut fields.d {
+        *d >>= draw.below(28);
+    }
+    octets(&fields, draw)
 }
 
 /// Gives one of octets 5 to 9 a value at either side of an edge.

@@ -8,8 +8,8 @@ use std::path::Path;
 use std::process::{Command, Stdio};
 
 use crate::draw::Draw;
-use crate::groups::{self, P1};
-use crate::paper::codec::{self, Fields, GROUP, HEADER};
+use crate::groups::{self, P1, P2};
+use crate::paper::codec::{self, Destination, Fields, GROUP, HEADER};
 use crate::report::{Report, Verdict};
 use crate::run::{hand_over, run, Outcome, LIMIT};
 use crate::temp::Temp;
@@ -145,10 +145,12 @@ fn worked_cases(program: &Path) -> Verdict {
     p3[7] = 0x80;
     let mut p4 = P1;
     p4[6] = 0x01;
-    let p2 = [0xFF, 0xFF, 0xFF, 0xFF, 0xFF, 0x0D, 0xFF, 0x7F, 0x13];
+    let mut p2_addressed = P2;
+    p2_addressed[6] = 0xFE;
     let cases = [
         (P1, "1 4 2 3 5 -2 2\n"),
-        (p2, "134217727 31 255 13 255 127 3\n"),
+        (P2, "- 31 255 13 255 127 3\n"),
+        (p2_addressed, "134217727 31 255 13 254 127 3\n"),
         (p3, "refused 6\n"),
         (p4, "refused 5\n"),
         // One bit of d's upper three at a time: only this shows their order.
@@ -168,7 +170,7 @@ fn worked_cases(program: &Path) -> Verdict {
     }
     compare(&input, &expected, &list(program, &input)?)?;
     Ok(format!(
-        "P1 to P4, octet 4 = 21, 22, 24, each alone and all {} together: same",
+        "P1 to P4, P2 with bs 254, octet 4 = 21, 22, 24, each alone and all {} together: same",
         cases.len()
     ))
 }
@@ -230,10 +232,10 @@ fn addresses(program: &Path) -> Verdict {
         for d in edge - 1..=edge + 1 {
             if d < 1 << 27 {
                 let fields = Fields {
-                    d,
-                    ..groups::fields(&mut draw)
+                    d: Destination::Address(d),
+                    ..groups::addressed(&mut draw)
                 };
-                input.extend_from_slice(&codec::octets(&fields, draw.octet()));
+                input.extend_from_slice(&groups::octets(&fields, &mut draw));
                 expected.extend_from_slice(codec::line(Ok(fields)).as_bytes());
             }
         }
@@ -257,13 +259,19 @@ fn random_groups(program: &Path) -> Verdict {
     if accepted < OFTEN || refused.iter().any(|&times| times < OFTEN) {
         return Err(format!("too few of some answer: {answers:?}"));
     }
-    compare(&input, &codec::listing(&input), &list(program, &input)?)?;
+    let expected = codec::listing(&input);
+    let dashes = expected.split(|&octet| octet == b'\n');
+    let dashes = dashes.filter(|line| line.starts_with(b"- ")).count();
+    if dashes < OFTEN {
+        return Err(format!("too few without a re-broadcast: {dashes}"));
+    }
+    compare(&input, &expected, &list(program, &input)?)?;
     let seen: Vec<String> = (2..)
         .zip(refused)
         .map(|(refusal, times)| format!("{refusal} ({times})"))
         .collect();
     Ok(format!(
-        "{} groups, accepted ({accepted}), refusals {} seen: same",
+        "{} groups, accepted ({accepted}, {dashes} without a re-broadcast), refusals {} seen: same",
         input.len() / GROUP,
         seen.join(" ")
     ))

@@ -38,8 +38,15 @@ fn block_of(octets: &[u8]) -> Result<Block, u32> {
     if bo == 0x80 {
         return Err(6);
     }
+    let (destination, d, information) = if roff == bs {
+        (1, 0, [o1, o2, o3])
+    } else {
+        (0, u32::from_be_bytes([o4 & 7, o1, o2, o3]), [0; 3])
+    };
     Ok(Block {
-        d: u32::from_be_bytes([o4 & 7, o1, o2, o3]),
+        destination,
+        d,
+        information,
         blg: (o4 >> 3).into(),
         roff: roff.into(),
         br,
@@ -61,7 +68,8 @@ pub fn read(octets: &[u8]) -> Reading {
 }
 
 fn octets_of(block: Block) -> Result<[u8; 9], u32> {
-    if block.d >= ADDRESSES {
+    let not_rebroadcast = block.destination == 1;
+    if !not_rebroadcast && block.d >= ADDRESSES {
         return Err(8);
     }
     if block.blg > 31 || block.bt > 3 {
@@ -79,7 +87,15 @@ fn octets_of(block: Block) -> Result<[u8; 9], u32> {
     if !(-127..=127).contains(&block.bo) {
         return Err(6);
     }
-    let [top, o1, o2, o3] = block.d.to_be_bytes();
+    if not_rebroadcast != (block.roff == block.bs) {
+        return Err(34);
+    }
+    let [top, o1, o2, o3] = if not_rebroadcast {
+        let [o1, o2, o3] = block.information;
+        [0, o1, o2, o3]
+    } else {
+        block.d.to_be_bytes()
+    };
     Ok([
         o1,
         o2,

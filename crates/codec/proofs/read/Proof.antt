@@ -12,8 +12,10 @@ use Rattle.octets.specs.Complement.{beyond127}
 use Rattle.octets.specs.Refusals.{firstOf, outside}
 use Rattle.octets.proofs.Complement.{beyond127-signedOf}
 use Rattle.octets.proofs.Refusals.{answer-refused, answer-accepted}
+use Rattle.codec.specs.declared.Destination.{Destination}
+use Rattle.codec.specs.declared.Destination.the-variants.{Address, NoRebroadcast}
 use Rattle.codec.specs.declared.Block.{Block}
-use Rattle.codec.specs.NineOctets.{octet, blockOf, badCode, fieldTests, readTests}
+use Rattle.codec.specs.NineOctets.{octet, destinationOf, blockWith, blockOf, badCode, fieldTests, readTests, reading}
 use Rattle.codec.proofs.Tests.{read-1, read-2, read-fields, field-3, field-4, field-5, field-6, field-0, octet-low, octet-inside}
 use Rattle.codec.proofs.read.Statement.{statement}
 use Rattle.codec.proofs.read.Tie as tie
@@ -45,6 +47,25 @@ good-bs c = octet-inside _ (c .if5 .left) (c .before .shared-slice-known5 .given
 -- of the octets of an offset, only 128 is bad
 offset : (c : tie.After-shared-slice-known6) → beyond127 (block (c .before .before .before .before .before .before .before .before .before) .bo) ≡ eqb (octet 8 (octets (c .before .before .before .before .before .before .before .before .before))) 128
 offset c = beyond127-signedOf (octet 8 (octets (c .before .before .before .before .before .before .before .before .before))) (c .shared-slice-known6 .given 7 .fits)
+
+-- past them all, the fields call for no refusal
+none-called-for : (c : tie.Else6) → 0 ≡ firstOf (readTests (octets (c .before .before .before .before .before .before .before .before .before .before)))
+none-called-for c =
+    let five = c .before .before in
+    let four = five .before .before in
+    let three = four .before .before in
+    let two = three .before .before .before .before in
+    field-0 (block two) (good-code three) (good-roff four) (good-bs five) (offset (c .before) ∙ ne-eqb _ _ (c .if6 .left)) ∙ by-fields two
+
+-- the fields beside the destination of octets are theirs
+theirs : (s : List ℕ) {d : Destination} {b : Block} → b ≡ blockWith d s → d ≡ destinationOf s → b ≡ blockOf s
+theirs s e f = rw (e, f)
+
+-- so they are accepted
+accept : (c : tie.Else6) (b : Block)
+    → b ≡ blockOf (octets (c .before .before .before .before .before .before .before .before .before .before))
+    → record { refusal = 0; block = b } ≡ reading (octets (c .before .before .before .before .before .before .before .before .before .before))
+accept c b e = rw e (answer-accepted _ _ (none-called-for c))
 
 refused-reading-requires : tie.Need-refused-reading-requires
 refused-reading-requires c κs = search needs
@@ -131,6 +152,12 @@ returns-6 c =
     c .refused-reading6 .ensures
     ∙ answer-refused _ _ (field-6 (block two) (good-code three) (good-roff four) (good-bs five) bad ∙ by-fields two) (omega arith)
 
+shared-slice-read-if7 : tie.Need-shared-slice-read-if7
+shared-slice-read-if7 c = search needs
+
+shared-slice-read-if7-2 : tie.Need-shared-slice-read-if7-2
+shared-slice-read-if7-2 c = search needs
+
 shared-slice-read-fields : tie.Need-shared-slice-read-fields
 shared-slice-read-fields c = search needs
 
@@ -163,14 +190,56 @@ fields-requires c κs = search needs
 
 returns-7 : tie.Need-returns-7
 returns-7 c =
-    let six = c .before .before .before .before .before .before .before .before .before .before in
-    let five = six .before .before in
-    let four = five .before .before in
-    let three = four .before .before in
-    let two = three .before .before .before .before in
-    let good = offset (six .before) ∙ ne-eqb _ _ (six .if6 .left) in
-    ap (λ (b : Block). record { refusal = 0; block = b }) {y = block two} (c .fields .ensures)
-    ∙ answer-accepted _ _ (field-0 (block two) (good-code three) (good-roff four) (good-bs five) good ∙ by-fields two)
+    let seven = c .before .before .before .before .before .before .before .before .before .before in
+    let six = seven .before .before .before in
+    let s = octets (six .before .before .before .before .before .before .before .before .before .before) in
+    let e : NoRebroadcast (octet 1 s) (octet 2 s) (octet 3 s) ≡ destinationOf s = rw (eq-eqb _ _ (seven .if7 .taken)) in
+    accept six _ (theirs s (c .fields .ensures) e)
+
+shared-slice-read-address : tie.Need-shared-slice-read-address
+shared-slice-read-address c = search needs
+
+shared-slice-read-address-2 : tie.Need-shared-slice-read-address-2
+shared-slice-read-address-2 c = search needs
+
+shared-slice-read-address-3 : tie.Need-shared-slice-read-address-3
+shared-slice-read-address-3 c = search needs
+
+shared-slice-read-address-4 : tie.Need-shared-slice-read-address-4
+shared-slice-read-address-4 c = search needs
+
+address-requires : tie.Need-address-requires
+address-requires c κs = search needs
+
+shared-slice-read-fields-10 : tie.Need-shared-slice-read-fields-10
+shared-slice-read-fields-10 c = search needs
+
+shared-slice-read-fields-11 : tie.Need-shared-slice-read-fields-11
+shared-slice-read-fields-11 c = search needs
+
+shared-slice-read-fields-12 : tie.Need-shared-slice-read-fields-12
+shared-slice-read-fields-12 c = search needs
+
+shared-slice-read-fields-13 : tie.Need-shared-slice-read-fields-13
+shared-slice-read-fields-13 c = search needs
+
+shared-slice-read-fields-14 : tie.Need-shared-slice-read-fields-14
+shared-slice-read-fields-14 c = search needs
+
+shared-slice-read-fields-15 : tie.Need-shared-slice-read-fields-15
+shared-slice-read-fields-15 c = search needs
+
+fields-requires-2 : tie.Need-fields-requires-2
+fields-requires-2 c κs = search needs
+
+returns-8 : tie.Need-returns-8
+returns-8 c =
+    let a = c .before .before .before .before .before .before .before in
+    let seven = a .before .before .before .before .before in
+    let six = seven .before .before .before in
+    let s = octets (six .before .before .before .before .before .before .before .before .before .before) in
+    let e : Address (a .address .result) ≡ destinationOf s = rw (a .address .ensures, ne-eqb _ _ (seven .if7 .left)) in
+    accept six _ (theirs s (c .fields2 .ensures) e)
 
 pub read-spec : {M : Type 1} → statement M
 read-spec =
@@ -196,6 +265,8 @@ read-spec =
     shared-slice-read-if6
     refused-reading-requires-6
     returns-6
+    shared-slice-read-if7
+    shared-slice-read-if7-2
     shared-slice-read-fields
     shared-slice-read-fields-2
     shared-slice-read-fields-3
@@ -206,4 +277,17 @@ read-spec =
     shared-slice-read-fields-8
     shared-slice-read-fields-9
     fields-requires
-    returns-7)
+    returns-7
+    shared-slice-read-address
+    shared-slice-read-address-2
+    shared-slice-read-address-3
+    shared-slice-read-address-4
+    address-requires
+    shared-slice-read-fields-10
+    shared-slice-read-fields-11
+    shared-slice-read-fields-12
+    shared-slice-read-fields-13
+    shared-slice-read-fields-14
+    shared-slice-read-fields-15
+    fields-requires-2
+    returns-8)

@@ -1,4 +1,5 @@
 -- `gemthatch::claims` promises what the laws prove. Assumes nothing.
+use Rattle.gemthatch.proofs.Blocks.{block-handed-back}
 use Rattle.gemthatch.proofs.Formed.{state-formed, state-opened, refusal-told, reported-small, found-small, slot-small, rate-small, pick-small}
 use Rattle.gemthatch.proofs.claims.Statement.{statement}
 use Rattle.gemthatch.proofs.claims.Tie as tie
@@ -6,6 +7,7 @@ use Rattle.gemthatch.proofs.claims.Tie as tie
 returns : tie.Need-returns
 returns c =
     record {
+      block-handed-back = block-handed-back;
       state-formed = state-formed;
       state-opened = state-opened;
       refusal-told = refusal-told;

@@ -4,8 +4,9 @@ use std::hint::black_box;
 
 use super::archive::{self, number};
 use super::figures::{time, Figures, Side};
+use crate::archive::block_of;
 use crate::draw::Draw;
-use crate::gemthatch::{Block, Tally};
+use crate::gemthatch::Tally;
 use crate::groups;
 use crate::plain;
 
@@ -73,24 +74,16 @@ fn read() -> Result<Figures, String> {
 fn write() -> Result<Figures, String> {
     measure(
         |draw| {
-            let fields = groups::fields(draw);
-            let mut block = Block {
-                d: fields.d,
-                blg: fields.blg,
-                roff: fields.roff,
-                br: fields.br,
-                bs: fields.bs,
-                bo: fields.bo,
-                bt: fields.bt,
-            };
+            let mut block = block_of(&groups::fields(draw));
             if spoilt(draw) {
-                match draw.below(7) {
+                match draw.below(8) {
                     0 => block.d += 1 << 27,
-                    1 => block.blg += 32,
-                    2 => block.bt += 4,
-                    3 => block.br = draw.one_of(&[7, 14, 15, 16]),
-                    4 => block.roff = draw.one_of(&[0, 1, 256]),
-                    5 => block.bs = draw.one_of(&[0, 1, 256]),
+                    1 => block.destination ^= 1,
+                    2 => block.blg += 32,
+                    3 => block.bt += 4,
+                    4 => block.br = draw.one_of(&[7, 14, 15, 16]),
+                    5 => block.roff = draw.one_of(&[0, 1, 256]),
+                    6 => block.bs = draw.one_of(&[0, 1, 256]),
                     _ => block.bo = draw.one_of(&[-128, 128]),
                 }
             }

@@ -16,7 +16,7 @@ const HELD: usize = GROUP - 1 + READ;
 
 const HEADER: &[u8] = b"d blg roff br bs bo bt\n";
 
-/// No line is longer than "134217727 31 255 13 255 -127 3\n".
+/// No line is longer than "134217727 31 255 13 254 -127 3\n".
 const LONGEST_LINE: usize = 31;
 
 /// What a line could touch if every piece were seven octets long, which is all
@@ -142,6 +142,13 @@ fn refusal(group: &[u8; GROUP]) -> u8 {
     }
 }
 
+/// In an address's place where nobody is to re-broadcast.
+#[inline(always)]
+fn put_dash(lines: &mut Lines, at: usize) -> usize {
+    lines[at..at + 2].copy_from_slice(b"- ");
+    at + 2
+}
+
 #[inline(always)]
 fn address(group: &[u8; GROUP]) -> u32 {
     u32::from_be_bytes([group[3] & 7, group[0], group[1], group[2]])
@@ -175,7 +182,11 @@ fn put_plain(lines: &mut Lines, at: usize, group: &[u8; GROUP]) -> usize {
         return put_refusal(lines, at, number);
     }
     let &[_, _, _, o4, roff, o6, bs, bo, o9] = group;
-    let mut at = put_number(lines, at, address(group), b' ');
+    let mut at = if roff == bs {
+        put_dash(lines, at)
+    } else {
+        put_number(lines, at, address(group), b' ')
+    };
     for field in [o4 >> 3, roff, o6 & 15, bs] {
         at = put_number(lines, at, field.into(), b' ');
     }
@@ -201,7 +212,9 @@ fn put_tuned(lines: &mut Lines, at: usize, group: &[u8; GROUP]) -> usize {
     let d = address(group);
     // Three digits at a time; a step back takes the space off again.
     let mut at = at;
-    if d >= 1_000_000 {
+    if roff == bs {
+        at = put_dash(lines, at);
+    } else if d >= 1_000_000 {
         at = put(lines, at, NUMBERS[(d / 1_000_000) as usize]) - 1;
         at = put_three(lines, at, d / 1000 % 1000) - 1;
         at = put_three(lines, at, d % 1000);

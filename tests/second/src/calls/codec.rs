@@ -1,10 +1,12 @@
 //! Reading, writing, the rate lookup, the parameter check and the pick.
 
-use super::often;
 use super::pair::{Call, Pair};
+use super::{expect, often};
+use crate::archive;
 use crate::draw::Draw;
+use crate::gemthatch::Block;
 use crate::groups::{self, P1};
-use crate::paper::codec::{self, Fields, GROUP, TABLE_1_33};
+use crate::paper::codec::{self, Destination, Fields, GROUP, TABLE_1_33};
 use crate::report::Verdict;
 
 /// What was read is written again: the same octets, the reserved bits cleared.
@@ -63,7 +65,10 @@ fn spoil(draw: &mut Draw, fields: &mut Fields) {
     const TWO: [u32; 8] = [0, 1, 2, 3, 254, 255, 256, u32::MAX];
     for _ in 0..=draw.below(3) {
         match draw.below(7) {
-            0 => fields.d = draw.one_of(&[0, (1 << 27) - 1, 1 << 27, (1 << 27) + 1, u32::MAX]),
+            0 => {
+                let d = draw.one_of(&[0, (1 << 27) - 1, 1 << 27, (1 << 27) + 1, u32::MAX]);
+                fields.d = Destination::Address(d);
+            }
             1 => fields.blg = draw.one_of(&[0, 31, 32, 33, 255, 256, u32::MAX]),
             2 => fields.roff = draw.one_of(&TWO),
             3 => fields.br = draw.one_of(&[6, 7, 8, 13, 14, 15, 16, 17, 23, 256, u32::MAX]),
@@ -86,7 +91,10 @@ pub fn writing(pair: &mut Pair) -> Verdict {
             0..=2 => {}
             3 => {
                 fields = Fields {
-                    d: draw.number() as u32,
+                    d: match draw.below(2) {
+                        0 => Destination::Address(draw.number() as u32),
+                        _ => Destination::NoRebroadcast(std::array::from_fn(|_| draw.octet())),
+                    },
                     blg: draw.number() as u32,
                     roff: draw.number() as u32,
                     br: draw.number() as u32,
@@ -110,6 +118,65 @@ pub fn writing(pair: &mut Pair) -> Verdict {
     }
     let seen = often(pair, &before, Call::Write, 1_000)?;
     Ok(format!("answers {seen}; read again, the same fields"))
+}
+
+/// A group that is not refused, as it has to be read; its first four octets, as
+/// they have to be written; and another destination, which has to be refused.
+fn destination(
+    pair: &mut Pair,
+    group: &[u8; GROUP],
+    d: Destination,
+    written: [u8; 4],
+    misplaced: Destination,
+) -> Result<(), String> {
+    let fields = pair.read(group)?;
+    let fields = fields.map_err(|refusal| format!("{group:02X?} refused {refusal}"))?;
+    expect("destination", d, fields.d)?;
+    expect("blg", u32::from(group[3] >> 3), fields.blg)?;
+    let octets = pair.write(&fields)?.map(|octets| octets[..4].to_vec());
+    expect("octets 1 to 4", Ok(written.to_vec()), octets)?;
+    let refused = pair.write(&Fields {
+        d: misplaced,
+        ..fields
+    })?;
+    expect("misplaced", Err(34), refused)
+}
+
+/// Each roff with bs equal to it and with a neighbour, and each octet 4: what
+/// octets 1 to 4 are stands here as the paper has it, whatever our reading says.
+pub fn destinations(pair: &mut Pair) -> Verdict {
+    let mut draw = Draw::from_seed(106);
+    let mut groups_read = 0;
+    for (roff, octet_4) in (0..=255).flat_map(|roff| (0..=255).map(move |octet| (roff, octet))) {
+        let mut group = groups::accepted(&mut draw);
+        (group[3], group[4], group[6]) = (octet_4, roff, roff);
+        if roff < 2 {
+            expect("roff and bs too low", Err(4), pair.read(&group)?)?;
+            continue;
+        }
+        let [o1, o2, o3, ..] = group;
+        let octets = Destination::NoRebroadcast([o1, o2, o3]);
+        let address = Destination::Address(u32::from_be_bytes([octet_4 & 7, o1, o2, o3]));
+        let cleared = [o1, o2, o3, octet_4 & 0xF8];
+        destination(pair, &group, octets, cleared, address)?;
+        group[6] = if roff == 255 { 254 } else { roff + 1 };
+        destination(pair, &group, address, [o1, o2, o3, octet_4], octets)?;
+        groups_read += 1;
+    }
+    // Any kind but 1 is an address, and what isn't used may be anything.
+    for _ in 0..20_000 {
+        let noise = Block {
+            destination: draw.one_of(&[0, 1, 1, 1, 2, 3, 255, 256, 257, 1 << 31, u32::MAX]),
+            d: draw.number() as u32 >> draw.below(32),
+            information: std::array::from_fn(|_| draw.octet()),
+            ..archive::block_of(&groups::fields(&mut draw))
+        };
+        let _ = pair.write_block(noise)?;
+    }
+    Ok(format!(
+        "each roff with each octet 4, bs equal to it and not: {groups_read} groups of either kind; \
+         kinds above 1"
+    ))
 }
 
 pub fn rates(pair: &mut Pair) -> Verdict {

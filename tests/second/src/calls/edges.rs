@@ -6,7 +6,7 @@ use super::near::FAR;
 use super::pair::{Channel, Pair};
 use crate::archive::Lent;
 use crate::groups::{P1, P1_FIELDS};
-use crate::paper::codec::{Fields, TABLE_1_33};
+use crate::paper::codec::{Destination, Fields, TABLE_1_33};
 use crate::paper::distance::UNKNOWN;
 use crate::paper::search::Wish;
 use crate::paper::table::{Measure, Record, Reservation, State, RECORD};
@@ -97,7 +97,10 @@ pub fn table(record: Record, state: State, capacity: usize) -> Channel {
 fn codec(pair: &mut Pair, tried: &mut usize) -> Result<(), String> {
     let base = P1_FIELDS;
     let mut write = |fields: Fields| pair.write(&fields).map(|answer| answer.map(|_| 0));
-    each(tried, "write, d", STATION, |d| write(Fields { d, ..base }))?;
+    each(tried, "write, d", STATION, |d| {
+        let d = Destination::Address(d);
+        write(Fields { d, ..base })
+    })?;
     let sides: Sides = &[(0, &[0, 31]), (9, &[32, 256, MAX])];
     each(tried, "write, blg", sides, |blg| {
         write(Fields { blg, ..base })
@@ -106,12 +109,33 @@ fn codec(pair: &mut Pair, tried: &mut usize) -> Result<(), String> {
     each(tried, "write, bt", sides, |bt| write(Fields { bt, ..base }))?;
     let codes: Sides = &[(0, &[0, 6, 8, 13]), (3, &[7, 14, 15, 16, 17, 256, MAX])];
     each(tried, "write, br", codes, |br| write(Fields { br, ..base }))?;
-    let sides: Sides = &[(0, &[2, 3, 254, 255]), (4, &[0, 1, 256, 258, MAX])];
-    each(tried, "write, roff", sides, |roff| {
+    // An address with roff 2 and bs 5.
+    let roffs: Sides = &[
+        (0, &[2, 3, 4, 6, 254, 255]),
+        (4, &[0, 1, 256, 258, 256 + 5, MAX]),
+        (34, &[5]),
+    ];
+    each(tried, "write, roff", roffs, |roff| {
         write(Fields { roff, ..base })
     })?;
-    let sides: Sides = &[(0, &[2, 3, 254, 255]), (5, &[0, 1, 256, 258, MAX])];
-    each(tried, "write, bs", sides, |bs| write(Fields { bs, ..base }))?;
+    let starts: Sides = &[(0, &[3, 254, 255]), (5, &[0, 1, 256, 258, MAX]), (34, &[2])];
+    each(tried, "write, bs", starts, |bs| {
+        write(Fields { bs, ..base })
+    })?;
+    // Three octets with the same.
+    let d = Destination::NoRebroadcast([0xFF; 3]);
+    let roffs: Sides = &[
+        (34, &[2, 3, 4, 6, 254, 255]),
+        (4, &[0, 1, 256, 258, 256 + 5, MAX]),
+        (0, &[5]),
+    ];
+    each(tried, "write, roff, octets", roffs, |roff| {
+        write(Fields { d, roff, ..base })
+    })?;
+    let starts: Sides = &[(34, &[3, 254, 255]), (5, &[0, 1, 256, 258, MAX]), (0, &[2])];
+    each(tried, "write, bs, octets", starts, |bs| {
+        write(Fields { d, bs, ..base })
+    })?;
     let sides: [(u32, &[i32]); 2] = [
         (0, &[-127, -1, 0, 127]),
         (6, &[-129, -128, 128, 129, 254, i32::MIN, i32::MAX]),

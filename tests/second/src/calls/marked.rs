@@ -5,8 +5,8 @@ use super::expect;
 use super::near::FAR;
 use super::pair::{Channel, Pair};
 use crate::archive::Lent;
-use crate::groups::{P1, P1_FIELDS};
-use crate::paper::codec::Fields;
+use crate::groups::{P1, P1_FIELDS, P2};
+use crate::paper::codec::{Destination, Fields};
 use crate::paper::distance::{Distance, UNKNOWN};
 use crate::paper::search::Wish;
 use crate::paper::table::{Measure, Record, Reservation, Table, RECORD};
@@ -67,7 +67,7 @@ fn codec_cases(pair: &mut Pair) -> Result<(), String> {
     };
     let p1 = P1_FIELDS;
     let p2 = Fields {
-        d: 134_217_727,
+        d: Destination::NoRebroadcast([0xFF; 3]),
         blg: 31,
         roff: 255,
         br: 13,
@@ -75,15 +75,25 @@ fn codec_cases(pair: &mut Pair) -> Result<(), String> {
         bo: 127,
         bt: 3,
     };
-    let p2_group = [0xFF, 0xFF, 0xFF, 0xFF, 0xFF, 0x0D, 0xFF, 0x7F, 0x13];
     expect("P1", Ok(p1), pair.read(&P1)?)?;
     expect("P1 written", Ok(P1), pair.write(&p1)?)?;
-    expect("P2", Ok(p2), pair.read(&p2_group)?)?;
-    expect("P2 written", Ok(p2_group), pair.write(&p2)?)?;
+    expect("P2", Ok(p2), pair.read(&P2)?)?;
+    let written = [0xFF, 0xFF, 0xFF, 0xF8, 0xFF, 0x0D, 0xFF, 0x7F, 0x13];
+    expect("P2 written", Ok(written), pair.write(&p2)?)?;
+    // Every bit of d, with a re-broadcast.
+    let addressed = Fields {
+        d: Destination::Address(134_217_727),
+        bs: 254,
+        ..p2
+    };
+    let group = [0xFF, 0xFF, 0xFF, 0xFF, 0xFF, 0x0D, 0xFE, 0x7F, 0x13];
+    expect("bs 254", Ok(addressed), pair.read(&group)?)?;
+    expect("bs 254 written", Ok(group), pair.write(&addressed)?)?;
     expect("P3", Err(6), pair.read(&with(8, 0x80))?)?;
     expect("P4", Err(5), pair.read(&with(7, 0x01))?)?;
     // One bit of d's upper three at a time: only this shows their order.
     for (octet, d) in [(0x21, 16_777_217), (0x22, 33_554_433), (0x24, 67_108_865)] {
+        let d = Destination::Address(d);
         let fields = Fields { d, ..p1 };
         expect("d's upper bits", Ok(fields), pair.read(&with(4, octet))?)?;
         expect("d's upper bits", Ok(with(4, octet)), pair.write(&fields)?)?;

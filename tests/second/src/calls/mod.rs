@@ -34,6 +34,7 @@ pub fn check(report: &mut Report) {
     add("worked cases", marked::check);
     add("reading", codec::reading);
     add("writing", codec::writing);
+    add("destinations", codec::destinations);
     add("rates", codec::rates);
     add("parameters", codec::parameters);
     add("picks", codec::picks);

@@ -9,7 +9,7 @@ use super::pair::{Call, Channel, Pair};
 use crate::archive::Lent;
 use crate::draw::Draw;
 use crate::groups;
-use crate::paper::codec::TABLE_1_33;
+use crate::paper::codec::{Destination, TABLE_1_33};
 use crate::paper::distance::UNKNOWN;
 use crate::paper::search::Wish;
 use crate::paper::table::{Measure, Record, Reservation, State, RECORD};
@@ -214,10 +214,7 @@ fn read(pair: &mut Pair, draw: &mut Draw, earned: &Earned) -> Result<Answer, Str
 }
 
 fn write(pair: &mut Pair, draw: &mut Draw, earned: &Earned) -> Result<Answer, String> {
-    let mut fields = groups::fields(draw);
-    if earned.has(8) {
-        fields.d = draw.one_of(&[STATIONS, u32::MAX]);
-    }
+    let mut fields = groups::addressed(draw);
     if earned.has(9) {
         match draw.below(2) {
             0 => fields.blg = draw.one_of(&[32, u32::MAX]),
@@ -227,12 +224,27 @@ fn write(pair: &mut Pair, draw: &mut Draw, earned: &Earned) -> Result<Answer, St
     if earned.has(3) {
         fields.br = draw.one_of(&[7, 14, 15, 16, u32::MAX]);
     }
-    if earned.has(4) {
-        fields.roff = draw.one_of(&[0, 1, 256, u32::MAX]);
-    }
+    let outside = [0, 1, 256, u32::MAX];
     if earned.has(5) {
-        fields.bs = draw.one_of(&[0, 1, 256, u32::MAX]);
+        fields.bs = draw.one_of(&outside);
     }
+    if earned.has(4) {
+        fields.roff = draw.one_of(&outside.map(|roff| roff ^ u32::from(roff == fields.bs)));
+    }
+    // An address is misplaced where roff equals bs, and octets where it doesn't.
+    let equal = earned.has(4) == earned.has(5)
+        && match earned.has(8) {
+            true => earned.has(34),
+            false => draw.below(2) == 0,
+        };
+    if equal {
+        fields.roff = fields.bs;
+    }
+    fields.d = match equal == earned.has(34) {
+        true if earned.has(8) => Destination::Address(draw.one_of(&[STATIONS, u32::MAX])),
+        true => Destination::Address(draw.below(STATIONS)),
+        false => Destination::NoRebroadcast(std::array::from_fn(|_| draw.octet())),
+    };
     if earned.has(6) {
         fields.bo = draw.one_of(&[-128, 128, i32::MIN, i32::MAX]);
     }
@@ -329,7 +341,11 @@ fn together(call: Call, earned: &Earned) -> bool {
         .any(|&(one, other)| earned.has(one) && earned.has(other));
     // Where the table isn't sound now can lie above the limit.
     let unsound_now = earned.has(11) && earned.has_any(&[12, 13]);
-    !apart || unsound_now
+    // An address is misplaced where roff equals bs: both lie in their ranges or
+    // neither does.
+    let one_in_range = earned.has(4) != earned.has(5);
+    let unequal = call == Call::Write && earned.has(8) && earned.has(34) && one_in_range;
+    (!apart || unsound_now) && !unequal
 }
 
 /// All sets of a call's refusals, the empty one too.

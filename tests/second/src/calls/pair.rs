@@ -5,7 +5,8 @@
 use std::fmt::Debug;
 
 use crate::archive::{self, Lent, LentTally};
-use crate::paper::codec::{self, Fields, GROUP};
+use crate::gemthatch::Block;
+use crate::paper::codec::{self, Destination, Fields, GROUP};
 use crate::paper::search::{self, Wish};
 use crate::paper::slots;
 use crate::paper::table::{self, After, Measure, Reservation, State, RECORD};
@@ -33,7 +34,7 @@ impl Call {
     /// Each call, its name, and its refusals in the order of the paper.
     pub const ALL: [(Call, &'static str, &'static [u32]); 13] = [
         (Call::Read, "read", &[1, 2, 3, 4, 5, 6]),
-        (Call::Write, "write", &[8, 9, 3, 4, 5, 6]),
+        (Call::Write, "write", &[8, 9, 3, 4, 5, 6, 34]),
         (Call::Rate, "rate", &[7, 3]),
         (Call::Parameter, "parameter", &[22, 10]),
         (Call::Open, "open", &[10, 1]),
@@ -76,11 +77,17 @@ impl Channel {
 pub type Compared = Result<Answer, String>;
 
 /// Refusals have numbers below it; place 0 is for what is accepted.
-const ANSWERS: usize = 23;
+const ANSWERS: usize = 35;
 
 /// How often each call gave each answer.
-#[derive(Clone, Default)]
+#[derive(Clone)]
 pub struct Counts([[u64; ANSWERS]; Call::ALL.len()]);
+
+impl Default for Counts {
+    fn default() -> Counts {
+        Counts([[0; ANSWERS]; Call::ALL.len()])
+    }
+}
 
 impl Counts {
     fn add(&mut self, call: Call, answer: Answer) {
@@ -192,9 +199,10 @@ impl Pair {
     /// The fields both gave, or their refusal.
     pub fn read(&mut self, group: &[u8]) -> Result<Result<Fields, u32>, String> {
         let expected = codec::read(group);
-        let compared = archive::read(group).and_then(|(refusal, fields)| {
+        let compared = archive::read(group).and_then(|(refusal, block)| {
             same("refusal", expected.err().unwrap_or(0), refusal)?;
-            same("fields", expected.unwrap_or_default(), fields)
+            let fields = expected.unwrap_or_default();
+            same("fields", archive::block_of(&fields), block)
         });
         let answer = expected.map(|_| 0);
         let _ = self.told(Call::Read, answer, compared, || hex(group))?;
@@ -203,12 +211,25 @@ impl Pair {
 
     /// The octets both gave, or their refusal.
     pub fn write(&mut self, fields: &Fields) -> Result<Result<[u8; GROUP], u32>, String> {
-        let expected = codec::write(fields);
-        let (refusal, octets) = archive::write(fields);
+        self.write_block(archive::block_of(fields))
+    }
+
+    /// The same of fields as C has them, with anything in what isn't used.
+    pub fn write_block(&mut self, block: Block) -> Result<Result<[u8; GROUP], u32>, String> {
+        let expected = codec::write(&Fields {
+            d: Destination::over_c(block.destination, block.d, block.information),
+            blg: block.blg,
+            roff: block.roff,
+            br: block.br,
+            bs: block.bs,
+            bo: block.bo,
+            bt: block.bt,
+        });
+        let (refusal, octets) = archive::write(block);
         let compared = same("refusal", expected.err().unwrap_or(0), refusal)
             .and_then(|()| same_octets("group", &expected.unwrap_or_default(), &octets));
         let answer = expected.map(|_| 0);
-        let _ = self.told(Call::Write, answer, compared, || format!("{fields:?}"))?;
+        let _ = self.told(Call::Write, answer, compared, || format!("{block:?}"))?;
         Ok(expected)
     }
 

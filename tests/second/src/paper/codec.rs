@@ -41,10 +41,36 @@ const PARAMETERS: [Parameter; 3] = [
     },
 ];
 
+/// Who is to re-broadcast a group: a station, or nobody. Then the first three
+/// octets belong to the information field.
+#[derive(Clone, Copy, Debug, PartialEq, Eq)]
+pub enum Destination {
+    Address(u32),
+    NoRebroadcast([u8; 3]),
+}
+
+impl Destination {
+    /// As it comes over C: a kind above 1 is an address too, and what the kind
+    /// doesn't use is ignored.
+    pub fn over_c(kind: u32, d: u32, information: [u8; 3]) -> Destination {
+        match kind {
+            1 => Destination::NoRebroadcast(information),
+            _ => Destination::Address(d),
+        }
+    }
+}
+
+/// A refused reading's.
+impl Default for Destination {
+    fn default() -> Destination {
+        Destination::Address(0)
+    }
+}
+
 /// What an accepted group carries, in the listing's order.
 #[derive(Clone, Copy, Debug, Default, PartialEq, Eq)]
 pub struct Fields {
-    pub d: u32,
+    pub d: Destination,
     pub blg: u32,
     pub roff: u32,
     pub br: u32,
@@ -66,10 +92,15 @@ pub fn read(group: &[u8]) -> Result<Fields, Refusal> {
     let &[o1, o2, o3, o4, o5, o6, o7, o8, o9] = group else {
         return Err(1);
     };
+    let address = [bits(o4, 3, 1), o1.into(), o2.into(), o3.into()]
+        .iter()
+        .fold(0, |d, part| d * 256 + part);
     let fields = Fields {
-        d: [bits(o4, 3, 1), o1.into(), o2.into(), o3.into()]
-            .iter()
-            .fold(0, |d, part| d * 256 + part),
+        d: if o5 == o7 {
+            Destination::NoRebroadcast([o1, o2, o3])
+        } else {
+            Destination::Address(address)
+        },
         blg: bits(o4, 8, 4),
         roff: o5.into(),
         br: bits(o6, 4, 1),
@@ -100,39 +131,49 @@ fn judge(fields: &Fields) -> Result<(), Refusal> {
 }
 
 /// Writes fields of any value: nine octets with the reserved bits 0, or the
-/// first refusal that applies, in the order 8, 9, 3, 4, 5, 6.
+/// first refusal that applies, in the order 8, 9, 3, 4, 5, 6, 34.
 pub fn write(fields: &Fields) -> Result<[u8; GROUP], Refusal> {
-    if fields.d >= STATIONS {
+    if matches!(fields.d, Destination::Address(STATIONS..)) {
         return Err(8);
     }
     if fields.blg > 31 || fields.bt > 3 {
         return Err(9);
     }
     judge(fields)?;
-    Ok(octets(fields, 0))
+    match fields.d {
+        Destination::Address(_) if fields.roff == fields.bs => Err(34),
+        Destination::NoRebroadcast(_) if fields.roff != fields.bs => Err(34),
+        _ => Ok(octets(fields, [0; GROUP])),
+    }
 }
 
 /// The nine octets of fields that are within their ranges, the reserved bits
-/// taken from `reserved`: its bits 8-5 go to octet 6, its bit 3 to octet 9.
-pub fn octets(fields: &Fields, reserved: u8) -> [u8; GROUP] {
-    let [d27_25, d24_17, d16_9, d8_1] = fields.d.to_be_bytes();
+/// those of `reserved`.
+pub fn octets(fields: &Fields, reserved: [u8; GROUP]) -> [u8; GROUP] {
+    let [low_3, o1, o2, o3] = match fields.d {
+        Destination::Address(d) => d.to_be_bytes(),
+        Destination::NoRebroadcast([o1, o2, o3]) => [reserved[3] & 0b111, o1, o2, o3],
+    };
     [
-        d24_17,
-        d16_9,
-        d8_1,
-        fields.blg as u8 * 8 + d27_25,
+        o1,
+        o2,
+        o3,
+        fields.blg as u8 * 8 + low_3,
         fields.roff as u8,
-        fields.br as u8 + (reserved & 0b1111_0000),
+        fields.br as u8 + (reserved[5] & 0b1111_0000),
         fields.bs as u8,
         fields.bo as u8,
-        0b00010 * 8 + (reserved & 0b100) + fields.bt as u8,
+        0b00010 * 8 + (reserved[8] & 0b100) + fields.bt as u8,
     ]
 }
 
-/// A group with its reserved bits cleared.
+/// A group with its reserved bits cleared, octet 4's where roff equals bs.
 pub fn cleared(mut group: [u8; GROUP]) -> [u8; GROUP] {
     group[5] &= 0b0000_1111;
     group[8] &= 0b1111_1011;
+    if group[4] == group[6] {
+        group[3] &= 0b1111_1000;
+    }
     group
 }
 
@@ -176,7 +217,13 @@ pub fn line(reading: Result<Fields, Refusal>) -> String {
             bs,
             bo,
             bt,
-        }) => format!("{d} {blg} {roff} {br} {bs} {bo} {bt}\n"),
+        }) => {
+            let d = match d {
+                Destination::Address(d) => d.to_string(),
+                Destination::NoRebroadcast(_) => "-".to_string(),
+            };
+            format!("{d} {blg} {roff} {br} {bs} {bo} {bt}\n")
+        }
         Err(number) => format!("refused {number}\n"),
     }
 }
