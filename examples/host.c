@@ -205,7 +205,7 @@ int main(void)
     /* 00 00 01 20 02 03 05 FE 12: destination 1, blocks of 5 slots, rate code 3, block start 5; and the same with block start 1. */
     static const uint8_t burst[GEMTHATCH_BURST_OCTETS] = { 0x00, 0x00, 0x01, 0x20, 0x02, 0x03, 0x05, 0xFE, 0x12 };
     static const uint8_t noise[GEMTHATCH_BURST_OCTETS] = { 0x00, 0x00, 0x01, 0x20, 0x02, 0x03, 0x01, 0xFE, 0x12 };
-    /* 41 54 43 20 05 03 05 FE 12: the first with a re-broadcast offset that equals the block start: nobody is to re-broadcast it. */
+    /* 41 54 43 20 05 03 05 FE 12: the same blocks with a re-broadcast offset that equals the block start, and text in front. */
     static const uint8_t quiet[GEMTHATCH_BURST_OCTETS] = { 0x41, 0x54, 0x43, 0x20, 0x05, 0x03, 0x05, 0xFE, 0x12 };
     const uint32_t tenant = 7001u, resident = 7002u, visitor = 7003u;
     gemthatch_channel alder, birch, cedar, twin;

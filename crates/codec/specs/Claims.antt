@@ -39,7 +39,7 @@ dWith octet4 = reading (0x00 ∷ 0x00 ∷ 0x01 ∷ octet4 ∷ 0x02 ∷ 0x03 ∷ 
 abbrev pub BitOrder : Type 0
 BitOrder = (dWith 0x21 ≡ Address (2 ^ 24 + 1)) × (dWith 0x24 ≡ Address (2 ^ 26 + 1))
 
--- with no re-broadcast the three octets are read in their order, whatever bits 3-1 of octet 4 are
+-- with no re-broadcast the three octets are read in their order, and set bits 3-1 of octet 4 change nothing
 abbrev pub OctetOrder : Type 0
 OctetOrder =
     reading (0x01 ∷ 0x02 ∷ 0x03 ∷ 0x27 ∷ 0x05 ∷ 0x03 ∷ 0x05 ∷ 0xFE ∷ 0x12 ∷ [])
