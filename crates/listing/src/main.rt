@@ -1,7 +1,6 @@
 // Lists the nine-octet groups of standard input, each as soon as it has come.
-ghost use mathlib.Core.Path.{_≡_};
-ghost use Prim.Native.Nat.{_+_, _<_, _≤_};
-ghost use lib.ListN.{length, take, drop};
+ghost use Prim.Native.Nat.{_<_, _≤_};
+ghost use lib.ListN.{length};
 ghost use Rattle.listing.specs.Steps.{HasRoom, Lines, leftOver};
 use libc::STDIN_FILENO;
 use libc::STDOUT_FILENO;
@@ -37,18 +36,6 @@ fn show(octets: &[u8], text: &mut [u8]) -> bool
     io::write_all(STDOUT_FILENO, &text[..n])
 }
 
-// Moves the n octets at `from` to the front.
-fn keep(buffer: &mut [u8], from: usize, n: usize)
-    requires { ⌜ from + n ≤ length (now buffer) ⌝ }
-    ensures { λ _. ⌜ take n (now (buffer .exit)) ≡ take n (drop from (now (buffer .entry))) ⌝ }
-{
-    let mut i = 0;
-    while i < n {
-        buffer[i] = buffer[from + i];
-        i += 1;
-    }
-}
-
 // One read: its whole groups are shown, and what is left is held.
 fn take_turn(buffer: &mut [u8], text: &mut [u8], held: usize) -> Turn
     requires { ⌜ (held < 9) × ((9 ≤ length (now buffer)) × HasRoom (now buffer) (now text)) ⌝ }
@@ -65,7 +52,7 @@ fn take_turn(buffer: &mut [u8], text: &mut [u8], held: usize) -> Turn
     let left = total % 9;
     let whole = total - left;
     if show(&buffer[..whole], text) {
-        keep(buffer, whole, left);
+        octets::to_front(buffer, whole, left);
         return Turn::More(left);
     }
     Turn::WriteFailed

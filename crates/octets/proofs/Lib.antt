@@ -3,3 +3,4 @@ pub mod Refusals
 pub mod Octets
 pub mod Zeros
 pub mod Complement
+pub mod ToFront

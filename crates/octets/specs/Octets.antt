@@ -41,6 +41,10 @@ zeros m = every (λ b. eqb b 0) m
 abbrev pub zeroFrom : ℕ → List ℕ → List ℕ
 zeroFrom at m = take at m ++ replicate (length m - at) 0
 
+-- a memory with the n octets from a place on copied to its front; where they don't all stand there, as it was
+unfoldable pub toFront : ℕ → ℕ → List ℕ → List ℕ
+toFront at n m = cond (stand n m at) (take n (drop at m) ++ drop n m) m
+
 -- an output list of n places that holds the answer only: the answer, and then zeros
 abbrev pub holdsOnly : ℕ → List ℕ → List ℕ
 holdsOnly n answer = answer ++ replicate (n - length answer) 0

@@ -1,9 +1,9 @@
 // Little-endian numbers in octets, two's complement, and octets that are 0.
 ghost use mathlib.Core.Path.{_≡_};
-ghost use Prim.Native.Nat.{_<_};
-ghost use mathlib.Core.List.{_∷_, []};
-ghost use lib.ListN.{drop};
-ghost use Rattle.octets.specs.Octets.{little, number, numberAt, putAt, zeros, zeroFrom};
+ghost use Prim.Native.Nat.{_+_, _<_, _≤_};
+ghost use mathlib.Core.List.{_∷_, [], _++_};
+ghost use lib.ListN.{length, take, drop};
+ghost use Rattle.octets.specs.Octets.{little, number, numberAt, putAt, zeros, zeroFrom, toFront};
 ghost use Rattle.octets.specs.Complement.{signedOf};
 ghost use Rattle.octets.specs.Claims.{Claims};
 
@@ -115,6 +115,31 @@ pub fn clear_from(memory: &mut [u8], at: usize)
         memory[i] = 0;
         i += 1;
     }
+}
+
+// Copies the n octets at a place to the front, which lies before them or at them.
+fn copy_down(memory: &mut [u8], at: usize, n: usize)
+    requires { ⌜ at + n ≤ length (now memory) ⌝ }
+    ensures { λ _. ⌜ now (memory .exit) ≡ take n (drop at (now (memory .entry))) ++ drop n (now (memory .entry)) ⌝ }
+{
+    let mut i = 0;
+    while i < n {
+        memory[i] = memory[at + i];
+        i += 1;
+    }
+}
+
+// Copies the n octets from a place on to the front. Where they don't all stand there, nothing is copied.
+pub fn to_front(memory: &mut [u8], at: usize, n: usize)
+    ensures { λ _. ⌜ now (memory .exit) ≡ toFront at n (now (memory .entry)) ⌝ }
+{
+    if memory.len() < n {
+        return;
+    }
+    if memory.len() - n < at {
+        return;
+    }
+    copy_down(memory, at, n);
 }
 
 // What this crate claims over its promises.

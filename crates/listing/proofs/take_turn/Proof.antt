@@ -56,8 +56,8 @@ slice-aggregate-show c = simp length-take (omega arith)
 show-requires : tie.Need-show-requires
 show-requires c κs = simp length-take (omega arith)
 
-keep-requires : tie.Need-keep-requires
-keep-requires c κs = search needs
+to-front-requires : tie.Need-to-front-requires
+to-front-requires c κs = search needs
 
 same-length-3 : tie.Need-same-length-3
 same-length-3 c = search needs
@@ -98,7 +98,7 @@ take-turn-spec =
     slice-reshare-prefix-show
     slice-aggregate-show
     show-requires
-    keep-requires
+    to-front-requires
     same-length-3
     same-length-4
     returns-3
