@@ -1,0 +1,32 @@
+-- `log::reserve_entry` meets its contract: the test asks of the closing zeros what `zeros` asks. Assumes nothing.
+use borrow.Author.Needs.{needs}
+use borrow.Author.Tests.{eq-eqb, ne-eqb}
+use Rattle.log.proofs.reserve_entry.Statement.{statement}
+use Rattle.log.proofs.reserve_entry.Tie as tie
+
+in-miles-requires : tie.Need-in-miles-requires
+in-miles-requires c κs = search needs
+
+cast-t4 : tie.Need-cast-t4
+cast-t4 c = search needs
+
+cast-t5 : tie.Need-cast-t5
+cast-t5 c = search needs
+
+cast-t6 : tie.Need-cast-t6
+cast-t6 c = search needs
+
+miles-requires : tie.Need-miles-requires
+miles-requires c κs = search needs
+
+returns : tie.Need-returns
+returns c =
+    let d = c .before .before .before .before in
+    simp (eq-eqb _ _ (d .before .if1 .taken), c .miles .ensures, d .in-miles .ensures)
+
+returns-2 : tie.Need-returns-2
+returns-2 c = simp (ne-eqb _ _ (c .if1 .left))
+
+pub reserve-entry-spec : {M : Type 1} → statement M
+reserve-entry-spec =
+    tie.close (tie.spec in-miles-requires cast-t4 cast-t5 cast-t6 miles-requires returns returns-2)

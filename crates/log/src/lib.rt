@@ -1,0 +1,179 @@
+// The records of a channel log: what each asks of the table, and the step that applies one.
+use distance::Distance;
+use table::Answer;
+use table::Request;
+use table::State;
+ghost use mathlib.Core.Path.{_≡_};
+ghost use mathlib.Core.List.{[], _∷_};
+ghost use lib.ListN.{length};
+ghost use Rattle.octets.specs.Octets.{zeros};
+ghost use Rattle.distance.specs.Distances.{num};
+ghost use Rattle.table.specs.Memory.{channel};
+ghost use Rattle.log.specs.Entries.{logRecordOf, inMiles, clockEntry, reserveEntry, distanceEntry, wipeEntry, byOperation, entryOf, entryLeaves, entryReturned};
+ghost use Rattle.log.specs.Claims.{Claims};
+
+// The octets of a log record.
+pub const ENTRY: usize = 24;
+
+// The numbers of a log record, in the order in which they stand there. The slot is a reserve's bs; `closing` are the four zeros at the end.
+struct LogRecord {
+    operation: u8,
+    rate: u8,
+    superframes: u8,
+    length: u8,
+    station: u32,
+    slot: u32,
+    distance: u32,
+    limit: u32,
+    closing: u32,
+}
+
+// What a log record asks for: a call of the table, or none, which is refused 23.
+pub enum Entry {
+    Clock(u32),
+    Reserve(Request),
+    SetDistance(u32, Distance, f64),
+    Wipe(u32),
+    NoCall,
+}
+
+fn log_record(octets: &[u8]) -> LogRecord
+    requires { ⌜ length (now octets) ≡ 24 ⌝ }
+    ensures { λ r. ⌜ r ≡ logRecordOf (now (octets .entry)) ⌝ }
+{
+    LogRecord {
+        operation: octets::octet_at(octets, 0),
+        rate: octets::octet_at(octets, 1),
+        superframes: octets::octet_at(octets, 2),
+        length: octets::octet_at(octets, 3),
+        station: octets::number_at(octets, 4),
+        slot: octets::number_at(octets, 8),
+        distance: octets::number_at(octets, 12),
+        limit: octets::number_at(octets, 16),
+        closing: octets::number_at(octets, 20),
+    }
+}
+
+// Whole miles as a float: every one of them is one.
+fn miles(n: u32) -> f64
+    ensures { λ r. ⌜ r ≡ num n ⌝ }
+{
+    n as f64
+}
+
+// A distance in whole miles; all ones for unknown.
+fn in_miles(n: u32) -> Distance
+    ensures { λ d. ⌜ d ≡ inMiles n ⌝ }
+{
+    if n == 4294967295 {
+        return Distance::Unknown;
+    }
+    Distance::Range(miles(n))
+}
+
+// Whether rate, superframes and length, which only a reserve uses, are 0.
+fn no_series(r: LogRecord) -> bool
+    ensures { λ b. ⌜ b ≡ zeros (r .rate ∷ r .superframes ∷ r .length ∷ []) ⌝ }
+{
+    (r.rate == 0) & (r.superframes == 0) & (r.length == 0)
+}
+
+fn clock_entry(r: LogRecord) -> Entry
+    ensures { λ e. ⌜ e ≡ clockEntry r ⌝ }
+{
+    let others = (r.station == 0) & (r.distance == 0) & (r.limit == 0) & (r.closing == 0);
+    if no_series(r) & others {
+        return Entry::Clock(r.slot);
+    }
+    Entry::NoCall
+}
+
+fn reserve_entry(r: LogRecord) -> Entry
+    ensures { λ e. ⌜ e ≡ reserveEntry r ⌝ }
+{
+    if r.closing == 0 {
+        let d = in_miles(r.distance);
+        return Entry::Reserve(Request {
+            station: r.station,
+            rate: r.rate as u32,
+            superframes: r.superframes as u32,
+            bs: r.slot,
+            length: r.length as u32,
+            distance: d,
+            limit: miles(r.limit),
+        });
+    }
+    Entry::NoCall
+}
+
+fn distance_entry(r: LogRecord) -> Entry
+    ensures { λ e. ⌜ e ≡ distanceEntry r ⌝ }
+{
+    if no_series(r) & (r.slot == 0) & (r.closing == 0) {
+        let d = in_miles(r.distance);
+        return Entry::SetDistance(r.station, d, miles(r.limit));
+    }
+    Entry::NoCall
+}
+
+fn wipe_entry(r: LogRecord) -> Entry
+    ensures { λ e. ⌜ e ≡ wipeEntry r ⌝ }
+{
+    let others = (r.slot == 0) & (r.distance == 0) & (r.limit == 0) & (r.closing == 0);
+    if no_series(r) & others {
+        return Entry::Wipe(r.station);
+    }
+    Entry::NoCall
+}
+
+fn by_operation(r: LogRecord) -> Entry
+    ensures { λ e. ⌜ e ≡ byOperation r ⌝ }
+{
+    if r.operation == 1 {
+        return clock_entry(r);
+    }
+    if r.operation == 2 {
+        return reserve_entry(r);
+    }
+    if r.operation == 3 {
+        return distance_entry(r);
+    }
+    if r.operation == 4 {
+        return wipe_entry(r);
+    }
+    Entry::NoCall
+}
+
+// What octets ask for.
+pub fn read(octets: &[u8]) -> Entry
+    ensures { λ e. ⌜ e ≡ entryOf (now (octets .entry)) ⌝ }
+{
+    if octets.len() == ENTRY {
+        return by_operation(log_record(octets));
+    }
+    Entry::NoCall
+}
+
+// Applies a log record to a table. Refused 23 where it asks for no call, before anything that its call is refused for.
+pub fn step(s: State, memory: &mut [u8], octets: &[u8]) -> Answer
+    ensures answer { λ r. ⌜ r ≡ entryReturned (channel s (now (memory .entry))) (now (octets .entry)) ⌝ }
+    ensures memory { λ _. ⌜ now (memory .exit) ≡ entryLeaves (channel s (now (memory .entry))) (now (octets .entry)) .memory ⌝ }
+{
+    let e = read(octets);
+    match e {
+        Entry::Clock(slot) => s.clock(memory, slot),
+        Entry::Reserve(q) => s.reserve(memory, q),
+        Entry::SetDistance(station, d, limit) => s.distance(memory, station, d, limit),
+        Entry::Wipe(station) => s.wipe(memory, station),
+        Entry::NoCall => Answer {
+            refusal: 23,
+            number: 0,
+            state: s,
+        },
+    }
+}
+
+// What this crate claims over its promises.
+pub fn claims()
+    ensures { λ _. ⌜ Claims ⌝ }
+{}
