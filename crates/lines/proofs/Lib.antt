@@ -5,3 +5,4 @@ pub mod Signed
 pub mod Lines
 pub mod Readings
 pub mod Pieces
+pub mod Day

@@ -1,4 +1,5 @@
 pub mod Text
 pub mod Listing
+pub mod Day
 pub mod Steps
 pub mod Claims

@@ -1,4 +1,4 @@
-// Lists nine-octet groups: a line for each, put into a lent text.
+// Every line that a program writes: the listing of nine-octet groups, put into a lent text; those of a replayed log and of a table by value.
 ghost use mathlib.Core.Path.{_≡_};
 ghost use mathlib.Core.Bool.{cond};
 ghost use mathlib.Core.List.{[], _∷_, _++_};
@@ -6,15 +6,27 @@ ghost use Prim.Native.Nat.{_+_, _*_, _<_, _≤_};
 ghost use lib.IntN.{natAbs};
 ghost use lib.ListN.{length};
 ghost use Rattle.octets.specs.Octets.{holdsOnly};
+ghost use Rattle.octets.specs.Refusals.{answer};
 ghost use Rattle.lines.specs.Text.{decimal, signedDecimal};
 ghost use Rattle.lines.specs.Listing.{header, destinationText, blockLine, refusedLine, line, group, groups, allLines, longest, linesIn};
+ghost use Rattle.lines.specs.Day.{okLine, saidLine, stateLine, recordLine, lineRoom, lineOf};
 ghost use Rattle.lines.specs.Steps.{Room, Wrote, three, field};
 ghost use Rattle.lines.specs.Claims.{Claims};
 use codec::Block;
 use codec::Destination;
+use record::Rec;
 
-// No line is longer: "134217727 31 255 13 254 -127 3" and its end.
+// No line of a listing is longer: "134217727 31 255 13 254 -127 3" and its end.
 pub const LONGEST: usize = 31;
+
+// No other line is longer: "18446744073709551615 refused 4294967295" and its end.
+pub const LINE: usize = 40;
+
+// A line by value: its length, and its octets, the rest 0.
+pub struct Line {
+    pub length: usize,
+    pub octets: [u8; LINE],
+}
 
 fn put(out: &mut [u8], at: usize, b: u8) -> usize
     requires { ⌜ Room (now out) at (b ∷ []) ⌝ }
@@ -78,26 +90,26 @@ fn put_small(out: &mut [u8], at: usize, n: u32) -> usize
 }
 
 // A number from 1000 on, three digits at a time: no division by a variable, and few turns.
-fn put_long(out: &mut [u8], at: usize, n: u32) -> usize
+fn put_long(out: &mut [u8], at: usize, n: u64) -> usize
     requires { ⌜ (1000 ≤ n) × Room (now out) at (decimal n) ⌝ }
     ensures { λ r. ⌜ Wrote (now (out .entry)) at (decimal n) r (now (out .exit)) ⌝ }
 {
     let high = n / 1000;
     if high < 1000 {
-        let i = put_small(out, at, high);
-        return put_three(out, i, n % 1000);
+        let i = put_small(out, at, high as u32);
+        return put_three(out, i, (n % 1000) as u32);
     }
     let i = put_long(out, at, high);
-    put_three(out, i, n % 1000)
+    put_three(out, i, (n % 1000) as u32)
 }
 
 // Apart from the recursion, so that it is inlined: most numbers are below 1000.
-fn put_decimal(out: &mut [u8], at: usize, n: u32) -> usize
+fn put_decimal(out: &mut [u8], at: usize, n: u64) -> usize
     requires { ⌜ Room (now out) at (decimal n) ⌝ }
     ensures { λ r. ⌜ Wrote (now (out .entry)) at (decimal n) r (now (out .exit)) ⌝ }
 {
     if n < 1000 {
-        put_small(out, at, n)
+        put_small(out, at, n as u32)
     } else {
         put_long(out, at, n)
     }
@@ -115,7 +127,7 @@ fn put_field(out: &mut [u8], at: usize, n: u32, after: u8) -> usize
     requires { ⌜ Room (now out) at (field n after) ⌝ }
     ensures { λ r. ⌜ Wrote (now (out .entry)) at (field n after) r (now (out .exit)) ⌝ }
 {
-    let i = put_decimal(out, at, n);
+    let i = put_decimal(out, at, n as u64);
     put(out, i, after)
 }
 
@@ -227,6 +239,68 @@ pub fn header() -> [u8; 23]
     ensures { λ r. ⌜ r ≡ header ⌝ }
 {
     *b"d blg roff br bs bo bt\n"
+}
+
+fn put_ok(out: &mut [u8], at: usize, n: u32) -> usize
+    requires { ⌜ Room (now out) at (okLine n) ⌝ }
+    ensures { λ r. ⌜ Wrote (now (out .entry)) at (okLine n) r (now (out .exit)) ⌝ }
+{
+    let i = put_text(out, at, b"ok ");
+    put_field(out, i, n, b'\n')
+}
+
+// What was said to a log record.
+fn put_said(out: &mut [u8], at: usize, refusal: u32, number: u32) -> usize
+    requires { ⌜ Room (now out) at (answer refusal (okLine number) refusedLine) ⌝ }
+    ensures { λ r. ⌜ Wrote (now (out .entry)) at (answer refusal (okLine number) refusedLine) r (now (out .exit)) ⌝ }
+{
+    if refusal == 0 {
+        return put_ok(out, at, number);
+    }
+    put_refused(out, at, refusal)
+}
+
+fn put_record(out: &mut [u8], at: usize, r: Rec) -> usize
+    requires { ⌜ Room (now out) at (recordLine r) ⌝ }
+    ensures { λ v. ⌜ Wrote (now (out .entry)) at (recordLine r) v (now (out .exit)) ⌝ }
+{
+    let i = put_field(out, at, r.station, b' ');
+    let i = put_field(out, i, r.first, b' ');
+    let i = put_field(out, i, r.rate as u32, b' ');
+    let i = put_field(out, i, r.superframes as u32, b' ');
+    let i = put_field(out, i, r.length as u32, b' ');
+    put_field(out, i, r.far as u32, b'\n')
+}
+
+// The line of a log record: its place, and what was said to it.
+pub fn said_line(place: u64, refusal: u32, number: u32) -> Line
+    ensures { λ r. ⌜ (r ≡ lineOf (saidLine place refusal number)) × (r .length ≤ lineRoom) ⌝ }
+{
+    let mut octets = [0u8; LINE];
+    let i = put_decimal(&mut octets, 0, place);
+    let j = put(&mut octets, i, b' ');
+    let length = put_said(&mut octets, j, refusal, number);
+    Line { length, octets }
+}
+
+// A table's first line.
+pub fn state_line(m1: u32, time: u32, count: u32) -> Line
+    ensures { λ r. ⌜ (r ≡ lineOf (stateLine m1 time count)) × (r .length ≤ lineRoom) ⌝ }
+{
+    let mut octets = [0u8; LINE];
+    let i = put_field(&mut octets, 0, m1, b' ');
+    let j = put_field(&mut octets, i, time, b' ');
+    let length = put_field(&mut octets, j, count, b'\n');
+    Line { length, octets }
+}
+
+// A record's line.
+pub fn record_line(r: Rec) -> Line
+    ensures { λ v. ⌜ (v ≡ lineOf (recordLine r)) × (v .length ≤ lineRoom) ⌝ }
+{
+    let mut octets = [0u8; LINE];
+    let length = put_record(&mut octets, 0, r);
+    Line { length, octets }
 }
 
 // What this crate claims over its promises.

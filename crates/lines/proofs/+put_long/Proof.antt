@@ -41,10 +41,16 @@ module _ (t : ℕ) where
   parts : (s : lts.Start callees given put-long.Post) → decimal (s .args .n) ≡ decimal (s .args .n / 1000) ++ three (s .args .n % 1000)
   parts s = decimal-thousand (s .args .n) (s .pre .1 .0)
 
+  cast-put-small : lts.Need-cast-put-small callees given put-long.Post
+  cast-put-small c = omega arith
+
   put-small-requires : lts.Need-put-small-requires callees given put-long.Post
   put-small-requires c κs =
       let s = c .before .before .before in
       (c .before .if1 .taken, room-first (three (s .args .n % 1000)) (rw (parts s) at (s .pre .1 .1)))
+
+  cast-put-three : lts.Need-cast-put-three callees given put-long.Post
+  cast-put-three c = omega arith
 
   put-three-requires : lts.Need-put-three-requires callees given put-long.Post
   put-three-requires c κs =
@@ -64,6 +70,9 @@ module _ (t : ℕ) where
   put-long-requires c κs =
       let s = c .before .before .before in
       (omega (arith, s .pre), (c .before .if1 .left, room-first (three (s .args .n % 1000)) (rw (parts s) at (s .pre .1 .1))))
+
+  cast-put-three-2 : lts.Need-cast-put-three-2 callees given put-long.Post
+  cast-put-three-2 c = omega arith
 
   put-three-requires-2 : lts.Need-put-three-requires-2 callees given put-long.Post
   put-three-requires-2 c κs =
@@ -86,11 +95,14 @@ pub +put-long-spec : {M : Type 1} → statement M
     (callees t)
     (given t)
     put-long.Post
+    (cast-put-small t)
     (put-small-requires t)
+    (cast-put-three t)
     (put-three-requires t)
     (same-length t)
     (returns t)
     (put-long-requires t)
+    (cast-put-three-2 t)
     (put-three-requires-2 t)
     (same-length-2 t)
     (returns-2 t)
