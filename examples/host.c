@@ -3,8 +3,8 @@
  *
  *     gcc -Iinclude examples/host.c target/staticlib/libgemthatch.a -o host && ./host
  *
- * It says what it does line by line, shows its tables by a walk, and keeps a tally of the day's calls, its own checks aside. Its exit
- * status is not 0 where something came out otherwise than this file says.
+ * It says what it does line by line, shows its tables by a walk, keeps a log of what one channel's table was asked and replays it, and
+ * keeps a tally of the day's calls, its own checks aside. Its exit status is not 0 where something came out otherwise than this file says.
  */
 #include <stdio.h>
 #include <string.h>
@@ -88,6 +88,60 @@ static int all_zero(const uint8_t *octets, size_t count)
     return 1;
 }
 
+/* The log of a channel's day: what its table was asked, log record after log record, refused or not. */
+static uint8_t entries[16][GEMTHATCH_ENTRY_OCTETS];
+static size_t logged = 0;
+static const gemthatch_channel *recorded = NULL;
+
+static void put_number(uint8_t *octets, uint32_t number)
+{
+    int i;
+    for (i = 0; i < 4; i++)
+        octets[i] = (uint8_t)(number >> 8 * i);
+}
+
+/* Logs a call that is asked of the recorded channel. What its operation does not use is 0. */
+static void log_call(const gemthatch_channel *channel, uint32_t operation, uint32_t rate, uint32_t superframes, uint32_t length,
+                     uint32_t station, uint32_t slot, uint32_t miles, uint32_t limit_miles)
+{
+    uint8_t *entry = entries[logged];
+    if (channel != recorded)
+        return;
+    if (logged + 1u == sizeof entries / sizeof entries[0]) {
+        expect(0, "the log has room for the day");
+        return;
+    }
+    entry[0] = (uint8_t)operation;
+    entry[1] = (uint8_t)rate;
+    entry[2] = (uint8_t)superframes;
+    entry[3] = (uint8_t)length;
+    put_number(entry + 4, station);
+    put_number(entry + 8, slot);
+    put_number(entry + 12, miles);
+    put_number(entry + 16, limit_miles);
+    put_number(entry + 20, 0u);
+    logged = logged + 1u;
+}
+
+static uint32_t set_clock(gemthatch_channel *channel, uint32_t slot)
+{
+    log_call(channel, GEMTHATCH_OPERATION_CLOCK, 0u, 0u, 0u, 0u, slot, 0u, 0u);
+    return counted(gemthatch_channel_clock(channel, slot));
+}
+
+/* A log has whole miles, and no offsets: what is logged of an offset is its length. */
+static uint32_t set_offset(gemthatch_channel *channel, uint32_t station, double east, double north, uint32_t miles)
+{
+    log_call(channel, GEMTHATCH_OPERATION_DISTANCE, 0u, 0u, 0u, station, 0u, miles, (uint32_t)limit);
+    return counted(gemthatch_channel_distance(channel, station, GEMTHATCH_KIND_OFFSET, east, north, limit));
+}
+
+static uint32_t wipe(gemthatch_channel *channel, uint32_t station)
+{
+    log_call(channel, GEMTHATCH_OPERATION_WIPE, 0u, 0u, 0u, station, 0u, 0u, 0u);
+    return counted(gemthatch_channel_wipe(channel, station));
+}
+
 /* A table's records by a walk, which counts as one call. */
 static void show(const char *name, const gemthatch_channel *channel)
 {
@@ -168,6 +222,8 @@ static uint32_t take_burst(gemthatch_channel *channel, uint32_t station, const u
     rate = counted(gemthatch_rate(rates, sizeof rates, read.block.br));
     if (rate >= GEMTHATCH_REFUSED)
         return rate;
+    log_call(channel, GEMTHATCH_OPERATION_RESERVE, rate, superframes, read.block.blg + 1u, station, read.block.bs, GEMTHATCH_ENTRY_UNKNOWN,
+             (uint32_t)limit);
     return counted(gemthatch_channel_reserve(channel, station, rate, superframes, read.block.bs, read.block.blg + 1u,
                                              GEMTHATCH_KIND_UNKNOWN, 0.0, 0.0, limit));
 }
@@ -176,6 +232,19 @@ static uint32_t take_burst(gemthatch_channel *channel, uint32_t station, const u
 static uint32_t reserve_one(gemthatch_channel *channel, uint32_t station, uint32_t bs)
 {
     return counted(gemthatch_channel_reserve(channel, station, 1u, 1u, bs, 1u, GEMTHATCH_KIND_UNKNOWN, 0.0, 0.0, limit));
+}
+
+/* Replays the log on a channel: of each log record its place, and how it went. */
+static void replay(gemthatch_channel *channel)
+{
+    size_t i;
+    for (i = 0; i < logged; i++) {
+        const uint32_t answer = counted(gemthatch_channel_replay_step(channel, entries[i], GEMTHATCH_ENTRY_OCTETS));
+        if (answer < GEMTHATCH_REFUSED)
+            printf("    %u ok %u\n", (unsigned)(i + 1u), (unsigned)answer);
+        else
+            printf("    %u refused %u\n", (unsigned)(i + 1u), (unsigned)gemthatch_refusal_of(answer));
+    }
 }
 
 /* Finds a place for a block of our own, picks one by a random number, and says which. The list is wiped by the next search. */
@@ -201,17 +270,17 @@ static uint32_t place_block(const char *name, const gemthatch_channel *channel, 
 
 int main(void)
 {
-    static uint8_t memories[4][OCTETS];
+    static uint8_t memories[5][OCTETS];
     /* 00 00 01 20 02 03 05 FE 12: destination 1, blocks of 5 slots, rate code 3, block start 5; and the same with block start 1. */
     static const uint8_t burst[GEMTHATCH_BURST_OCTETS] = { 0x00, 0x00, 0x01, 0x20, 0x02, 0x03, 0x05, 0xFE, 0x12 };
     static const uint8_t noise[GEMTHATCH_BURST_OCTETS] = { 0x00, 0x00, 0x01, 0x20, 0x02, 0x03, 0x01, 0xFE, 0x12 };
     /* 41 54 43 20 05 03 05 FE 12: the same blocks with a re-broadcast offset that equals the block start, and text in front. */
     static const uint8_t quiet[GEMTHATCH_BURST_OCTETS] = { 0x41, 0x54, 0x43, 0x20, 0x05, 0x03, 0x05, 0xFE, 0x12 };
     const uint32_t tenant = 7001u, resident = 7002u, visitor = 7003u;
-    gemthatch_channel alder, birch, cedar, twin;
+    gemthatch_channel alder, birch, cedar, twin, night;
     gemthatch_block block;
     uint8_t octets[GEMTHATCH_BURST_OCTETS];
-    uint32_t answer, i;
+    uint32_t answer, refused_before, i;
 
     memset(memories, 0xAA, sizeof memories); /* what the worker had there before */
 
@@ -223,7 +292,8 @@ int main(void)
     (void)told("Cedar, M1 60", counted(gemthatch_channel_open(&cedar, memories[2], OCTETS, GEMTHATCH_M1_MIN)), NULL);
     /* The twin sees Birch's day without the tenant, to hold Birch against at the end. */
     (void)told("Birch's twin, M1 4500", counted(gemthatch_channel_open(&twin, memories[3], OCTETS, GEMTHATCH_M1_DEFAULT)), NULL);
-    expect(all_zero(memories[0], sizeof memories), "an opened table is all zero");
+    expect(all_zero(memories[0], 4u * OCTETS), "an opened table is all zero");
+    recorded = &birch;
 
     printf("\nTwo bursts, as they are read, and the second written again\n");
     block = show_burst(burst);
@@ -243,9 +313,9 @@ int main(void)
     expect(show_burst(octets).d == visitor, "the visitor is to re-broadcast it");
 
     printf("\nSlot 100: bursts come in\n");
-    (void)told("Alder's clock", counted(gemthatch_channel_clock(&alder, 100u)), "records over");
-    (void)told("Birch's clock", counted(gemthatch_channel_clock(&birch, 100u)), "records over");
-    (void)told("the twin's clock", counted(gemthatch_channel_clock(&twin, 100u)), "records over");
+    (void)told("Alder's clock", set_clock(&alder, 100u), "records over");
+    (void)told("Birch's clock", set_clock(&birch, 100u), "records over");
+    (void)told("the twin's clock", set_clock(&twin, 100u), "records over");
     (void)told("Alder: the visitor, 7003", take_burst(&alder, visitor, quiet, 2u), NULL);
     (void)told("Birch: the tenant, 7001", take_burst(&birch, tenant, burst, 3u), NULL);
     (void)told("Birch: the resident, 7002", take_burst(&birch, resident, burst, 2u), NULL);
@@ -282,30 +352,30 @@ int main(void)
         (void)told("a station reserves one slot", reserve_one(&cedar, i, 20u + i), NULL);
     answer = told("and one more", reserve_one(&cedar, 9u, 30u), NULL);
     expect_refused(answer, GEMTHATCH_REFUSED_FULL, "there is no room");
-    answer = told("Cedar's clock, slot 22", counted(gemthatch_channel_clock(&cedar, 22u)), "records over");
+    answer = told("Cedar's clock, slot 22", set_clock(&cedar, 22u), "records over");
     expect(answer == 2u, "those at 20 and 21 are over");
     show("Cedar", &cedar);
     expect(gemthatch_channel_record_at(&cedar, 0u).record.first == 22u && gemthatch_channel_record_at(&cedar, 1u).record.first == 23u,
            "those at 22 and 23 moved up, in their order");
 
     printf("\nLater: the tenant reserves again, and time goes on\n");
-    (void)told("Birch's clock, slot 5000", counted(gemthatch_channel_clock(&birch, 5000u)), "records over");
-    (void)told("the twin's clock, slot 5000", counted(gemthatch_channel_clock(&twin, 5000u)), "records over");
+    (void)told("Birch's clock, slot 5000", set_clock(&birch, 5000u), "records over");
+    (void)told("the twin's clock, slot 5000", set_clock(&twin, 5000u), "records over");
     (void)told("Birch: the tenant, 7001", take_burst(&birch, tenant, burst, 1u), NULL);
-    answer = counted(gemthatch_channel_distance(&birch, tenant, GEMTHATCH_KIND_OFFSET, 90.0, 120.0, limit));
+    answer = set_offset(&birch, tenant, 90.0, 120.0, 150u);
     (void)told("Birch: the tenant's distance", answer, "records");
     expect(answer == 2u, "it has two records");
     (void)told("Birch: the visitor, 7003", take_burst(&birch, visitor, burst, 3u), NULL);
     (void)told("the twin: the visitor, 7003", take_burst(&twin, visitor, burst, 3u), NULL);
-    (void)told("Birch's clock, slot 9000", counted(gemthatch_channel_clock(&birch, 9000u)), "records over");
-    (void)told("the twin's clock, slot 9000", counted(gemthatch_channel_clock(&twin, 9000u)), "records over");
+    (void)told("Birch's clock, slot 9000", set_clock(&birch, 9000u), "records over");
+    (void)told("the twin's clock, slot 9000", set_clock(&twin, 9000u), "records over");
     show("Birch", &birch);
     expect(holds(gemthatch_channel_record_at(&birch, 0u), tenant, 105u, 3u, 1u), "the tenant's record comes first, and is far");
     expect(holds(gemthatch_channel_record_at(&birch, 1u), visitor, 5005u, 3u, 0u), "then the visitor's, which is not far");
     expect(gemthatch_channel_record_at(&birch, 2u).handed == 0u, "and then no more");
 
     printf("\nMonth's end: the tenant leaves Birch\n");
-    answer = told("Birch: the tenant is wiped", counted(gemthatch_channel_wipe(&birch, tenant)), "records removed");
+    answer = told("Birch: the tenant is wiped", wipe(&birch, tenant), "records removed");
     expect(answer == 1u, "its other one was over");
     show("Birch", &birch);
     show_octets(&birch);
@@ -314,6 +384,17 @@ int main(void)
     expect(is_without(&birch, tenant), "no record is the tenant's");
     expect(birch.now == twin.now && birch.count == twin.count, "clock and count are those without the tenant");
     expect(memcmp(memories[1], memories[3], OCTETS) == 0, "the octets are those without the tenant");
+    printf("\nNight: the log of Birch's day is replayed on another table\n");
+    (void)told("a table, M1 4500", counted(gemthatch_channel_open(&night, memories[4], OCTETS, GEMTHATCH_M1_DEFAULT)), NULL);
+    refused_before = day.refused;
+    replay(&night);
+    expect(logged == 10u && day.refused == refused_before + 1u, "one of its ten calls was refused, as by day");
+    called_for = called_for + 1;
+    show("what it leaves", &night);
+    expect(night.now == birch.now && night.count == birch.count, "clock and count are Birch's");
+    expect(memcmp(memories[4], memories[1], OCTETS) == 0, "the octets are Birch's");
+
+    printf("\nThe worker's list, lent once more\n");
     answer = counted(gemthatch_channel_search(&birch, 9000u, 9100u, 5u, GEMTHATCH_WANTED_MAX, scratch, sizeof scratch - 1u));
     (void)told("a search with a list too short", answer, "found");
     expect_refused(answer, GEMTHATCH_REFUSED_SIZE, "fifteen places and three octets are too few");
@@ -322,7 +403,7 @@ int main(void)
     expect(day.refused == called_for, "the calls refused are those that had to be");
     expect(day.accepted == calls - called_for, "and all others are accepted");
     if (surprises == 0)
-        printf("\nBirch and its twin are the same in every octet, and the scratch list is empty.\n");
+        printf("\nBirch, its twin and the replayed table are the same in every octet, and the scratch list is empty.\n");
     else
         printf("\n%d things came out otherwise.\n", surprises);
     printf("The day's tally: %u calls accepted, %u refused (a burst that comes in is up to three calls, a walk counts as one)\n",

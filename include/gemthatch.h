@@ -8,8 +8,8 @@
  * WHAT IT DOES
  * A superframe block reservation is nine octets of a burst: read and write them. A channel's reservations stand in a table of records in
  * memory that you lend. A slot is free, reusable or taken, as the stored reservations say. A search lists where a block of slots may be
- * placed, and a pick chooses one. A station that leaves is wiped without trace. A walk hands out a table's records one by one, and a tally
- * counts accepted and refused calls.
+ * placed, and a pick chooses one. A station that leaves is wiped without trace. A channel's log is replayed record by record. A walk hands
+ * out a table's records one by one, and a tally counts accepted and refused calls.
  *
  * WHAT EVERY CALL PROMISES
  * Every call takes any numbers and any octets, and ends. Bad input gets a numbered refusal, the first that applies in the order given with
@@ -24,10 +24,10 @@
  * given the same tally must run one at a time.
  *
  * What a call is lent is a pointer and the number of octets behind it. No alignment is asked. NULL is allowed where that number is 0. A
- * search's list must not overlap the table's memory. A tally is lent by its pointer alone: it must point to a tally, aligned as any struct
- * of C, and not be NULL. A channel, too, must not be NULL, and must have been through gemthatch_channel_open. The place that
- * gemthatch_list_slot is given must be below the number found. These, and that so many octets are really there, are the only things that
- * the library can't test for you.
+ * search's list must not overlap the table's memory, nor must a log record. A tally is lent by its pointer alone: it must point to a tally,
+ * aligned as any struct of C, and not be NULL. A channel, too, must not be NULL, and must have been through gemthatch_channel_open. The
+ * place that gemthatch_list_slot is given must be below the number found. These, and that so many octets are really there, are the only
+ * things that the library can't test for you.
  *
  * The table's memory and the state go together: hand back the memory as the last call left it, with the state that its answer gives.
  * `gemthatch_channel`, at the end of this file, does that for you.
@@ -58,6 +58,7 @@ extern "C" {
 #define GEMTHATCH_RECORD_OCTETS 12u         /* a record of the table */
 #define GEMTHATCH_RECORDS_MAX 2048u         /* records of a table, at least 1 */
 #define GEMTHATCH_MEMORY_MAX (GEMTHATCH_RECORDS_MAX * GEMTHATCH_RECORD_OCTETS)
+#define GEMTHATCH_ENTRY_OCTETS 24u          /* a log record */
 #define GEMTHATCH_LIST_SLOT_OCTETS 4u       /* a slot in a search's list */
 #define GEMTHATCH_WANTED_MAX 16u            /* starts that a search gives, at least 1 */
 #define GEMTHATCH_LIST_MAX (GEMTHATCH_WANTED_MAX * GEMTHATCH_LIST_SLOT_OCTETS) /* octets that a search's list ever needs */
@@ -106,6 +107,7 @@ enum gemthatch_refusal {
     GEMTHATCH_REFUSED_WANTED = 20,         /* wanted outside 1..16; pick from n outside 1..16 */
     GEMTHATCH_REFUSED_NONE = 21,           /* no start in the range has a block without a taken slot */
     GEMTHATCH_REFUSED_PARAMETER = 22,      /* parameter number not 1..3 */
+    GEMTHATCH_REFUSED_ENTRY = 23,          /* a log record not 24 octets, its operation not 1..4, or what that doesn't use not 0 */
     GEMTHATCH_REFUSED_DESTINATION = 34     /* an address with roff equal to bs, or no re-broadcast with roff not equal to bs */
 };
 
@@ -142,6 +144,7 @@ static inline const char *gemthatch_refusal_text(uint32_t refusal)
     case GEMTHATCH_REFUSED_WANTED: return "wanted or n outside 1..16";
     case GEMTHATCH_REFUSED_NONE: return "no block to use";
     case GEMTHATCH_REFUSED_PARAMETER: return "no such parameter";
+    case GEMTHATCH_REFUSED_ENTRY: return "no log record";
     case GEMTHATCH_REFUSED_DESTINATION: return "destination does not go with roff and bs";
     default: return "no refusal of this library";
     }
@@ -276,6 +279,38 @@ GEMTHATCH_MUST_USE uint32_t gemthatch_distance(uint8_t *memory, size_t octets, u
  */
 GEMTHATCH_MUST_USE uint32_t gemthatch_wipe(uint8_t *memory, size_t octets, uint32_t m1, uint32_t now, uint32_t count, uint32_t station);
 
+/* ---- the log ------------------------------------------------------------------------------------------------------------------------ */
+
+/* What a log record asks for: its first octet, and which of its fields that uses. */
+enum gemthatch_operation {
+    GEMTHATCH_OPERATION_CLOCK = 1,    /* slot */
+    GEMTHATCH_OPERATION_RESERVE = 2,  /* all, with bs in the slot's place */
+    GEMTHATCH_OPERATION_DISTANCE = 3, /* station, distance, limit */
+    GEMTHATCH_OPERATION_WIPE = 4      /* station */
+};
+
+/* The distance of a log record that is unknown. Any other is a range. */
+#define GEMTHATCH_ENTRY_UNKNOWN 4294967295u
+
+/*
+ * Applies a log record to a table, that is, makes the call that it asks for. It is GEMTHATCH_ENTRY_OCTETS octets, numbers little-endian:
+ *
+ *     0           operation
+ *     1, 2, 3     rate, superframes, length
+ *     4 to 7      station
+ *     8 to 11     slot, or bs
+ *     12 to 15    distance in whole nautical miles
+ *     16 to 19    reuse limit in whole nautical miles
+ *     20 to 23    0
+ *
+ * Fields that its operation does not use are 0. The memory is left, and the number returned, as by the call. The next state is formed as
+ * the call says; the answer alone does not tell which call that is, so this takes the log record's operation, and of a clock its slot:
+ * gemthatch_channel_replay_step does it.
+ * Refused: 23, before anything else; then as the call is.
+ */
+GEMTHATCH_MUST_USE uint32_t gemthatch_replay_step(uint8_t *memory, size_t octets, uint32_t m1, uint32_t now, uint32_t count,
+                                                  const uint8_t *entry, size_t entry_octets);
+
 /* ---- slots -------------------------------------------------------------------------------------------------------------------------- */
 
 /* A slot's state. */
@@ -384,8 +419,8 @@ GEMTHATCH_MUST_USE static inline uint32_t gemthatch_counted(gemthatch_tally *tal
 /* ---- a channel: a table with its state ---------------------------------------------------------------------------------------------- */
 
 /*
- * The calls above with the state kept for you: each forms the next state from its answer, as proved in the library (its claim
- * `state-formed`). The memory stays yours, and must live as long as the channel is used.
+ * The calls above with the state kept for you: each forms the next state from its answer, as proved in the library (its claims
+ * `state-formed` and `entry-formed`). The memory stays yours, and must live as long as the channel is used.
  */
 typedef struct gemthatch_channel {
     uint8_t *memory;
@@ -439,6 +474,24 @@ GEMTHATCH_MUST_USE static inline uint32_t gemthatch_channel_wipe(gemthatch_chann
     const uint32_t answer = gemthatch_wipe(channel->memory, channel->octets, channel->m1, channel->now, channel->count, station);
     if (answer < GEMTHATCH_REFUSED)
         channel->count -= answer;
+    return answer;
+}
+
+GEMTHATCH_MUST_USE static inline uint32_t gemthatch_channel_replay_step(gemthatch_channel *channel, const uint8_t *entry,
+                                                                        size_t entry_octets)
+{
+    const uint32_t answer = gemthatch_replay_step(channel->memory, channel->octets, channel->m1, channel->now, channel->count, entry,
+                                                  entry_octets);
+    if (answer < GEMTHATCH_REFUSED)
+        switch (entry[0]) {
+        case GEMTHATCH_OPERATION_CLOCK:
+            channel->now = (uint32_t)entry[8] | (uint32_t)entry[9] << 8 | (uint32_t)entry[10] << 16 | (uint32_t)entry[11] << 24;
+            channel->count -= answer;
+            break;
+        case GEMTHATCH_OPERATION_RESERVE: channel->count += 1u; break;
+        case GEMTHATCH_OPERATION_WIPE: channel->count -= answer; break;
+        default: break; /* a distance leaves the state */
+        }
     return answer;
 }
 

@@ -177,6 +177,59 @@ static void tables(void)
     IS(channel.count, 0u);
 }
 
+/* A log record: operation, rate, superframes, length, station, slot, distance, limit, and the zeros at its end. */
+static const uint8_t *entry_of(uint32_t operation, uint32_t series, uint32_t station, uint32_t slot, uint32_t distance, uint32_t limit)
+{
+    static uint8_t entry[GEMTHATCH_ENTRY_OCTETS + 1u];
+    const uint32_t numbers[6] = { operation | series << 8, station, slot, distance, limit, 0 };
+    size_t i;
+    for (i = 0; i < GEMTHATCH_ENTRY_OCTETS; i++)
+        entry[i] = (uint8_t)(numbers[i / 4u] >> i % 4u * 8u);
+    return entry;
+}
+
+static uint32_t step(const uint8_t *entry)
+{
+    return gemthatch_channel_replay_step(&channel, entry, GEMTHATCH_ENTRY_OCTETS);
+}
+
+/* Each operation with the state that its helper forms, and what is no log record. */
+static void log_records(void)
+{
+    const uint32_t series = 0x050203u; /* rate 3, superframes 2, length 5 */
+    uint8_t before[2u * GEMTHATCH_RECORD_OCTETS];
+    open_channel(2u);
+    IS(step(entry_of(GEMTHATCH_OPERATION_CLOCK, 0u, 0u, 0x01020304u, 0u, 0u)), 0u);
+    check(channel.now == 0x01020304u && channel.count == 0u, __LINE__);
+    IS(step(entry_of(GEMTHATCH_OPERATION_RESERVE, series, 7u, GEMTHATCH_BS_MIN, GEMTHATCH_ENTRY_UNKNOWN, 0u)), 0u);
+    IS(step(entry_of(GEMTHATCH_OPERATION_RESERVE, series, 8u, GEMTHATCH_BS_MAX, 4096u, 4096u)), 0u);
+    check(channel.now == 0x01020304u && channel.count == 2u, __LINE__);
+    check(gemthatch_channel_record_at(&channel, 0u).record.far == 0u, __LINE__);
+    check(gemthatch_channel_record_at(&channel, 1u).record.far == 1u, __LINE__);
+    check(gemthatch_channel_record_at(&channel, 1u).record.first == 0x01020304u + GEMTHATCH_BS_MAX, __LINE__);
+    REFUSES(step(entry_of(GEMTHATCH_OPERATION_RESERVE, series, 9u, GEMTHATCH_BS_MIN, 0u, 0u)), FULL);
+    IS(step(entry_of(GEMTHATCH_OPERATION_DISTANCE, 0u, 7u, 0u, 0u, 0u)), 1u);
+    check(channel.count == 2u && gemthatch_channel_record_at(&channel, 0u).record.far == 1u, __LINE__);
+    REFUSES(step(entry_of(GEMTHATCH_OPERATION_DISTANCE, 0u, 7u, 0u, 0u, 4097u)), LIMIT);
+    memcpy(before, memory, sizeof before);
+    REFUSES(step(entry_of(GEMTHATCH_OPERATION_WIPE, 0u, 7u, 1u, 0u, 0u)), ENTRY);
+    REFUSES(step(entry_of(GEMTHATCH_OPERATION_CLOCK, 0u, 0u, 0x01020305u, GEMTHATCH_ENTRY_UNKNOWN, 0u)), ENTRY);
+    REFUSES(step(entry_of(GEMTHATCH_OPERATION_CLOCK - 1u, 0u, 0u, 0u, 0u, 0u)), ENTRY);
+    REFUSES(step(entry_of(GEMTHATCH_OPERATION_WIPE + 1u, 0u, 0u, 0u, 0u, 0u)), ENTRY);
+    REFUSES(gemthatch_channel_replay_step(&channel, entry_of(GEMTHATCH_OPERATION_WIPE, 0u, 7u, 0u, 0u, 0u), GEMTHATCH_ENTRY_OCTETS - 1u), ENTRY);
+    REFUSES(gemthatch_channel_replay_step(&channel, entry_of(GEMTHATCH_OPERATION_WIPE, 0u, 7u, 0u, 0u, 0u), GEMTHATCH_ENTRY_OCTETS + 1u), ENTRY);
+    REFUSES(gemthatch_channel_replay_step(&channel, NULL, 0u), ENTRY);
+    check(channel.now == 0x01020304u && channel.count == 2u && memcmp(memory, before, sizeof before) == 0, __LINE__);
+    IS(step(entry_of(GEMTHATCH_OPERATION_WIPE, 0u, 7u, 0u, 0u, 0u)), 1u);
+    check(channel.now == 0x01020304u && channel.count == 1u, __LINE__);
+    IS(step(entry_of(GEMTHATCH_OPERATION_CLOCK, 0u, 0u, GEMTHATCH_SLOT_MAX, 0u, 0u)), 1u);
+    check(channel.now == GEMTHATCH_SLOT_MAX && channel.count == 0u, __LINE__);
+    /* 23 comes before the table's own refusals. */
+    channel.m1 = 0u;
+    REFUSES(step(entry_of(GEMTHATCH_OPERATION_WIPE, 0u, 7u, 0u, 0u, 0u)), NOT_SOUND);
+    REFUSES(step(entry_of(GEMTHATCH_OPERATION_WIPE, 0u, 7u, 0u, 0u, 1u)), ENTRY);
+}
+
 static void searches(void)
 {
     open_channel(1u);
@@ -282,7 +335,7 @@ static void tallies(void)
 
 static int is_refusal(uint32_t number)
 {
-    return number <= GEMTHATCH_REFUSED_PARAMETER || number == GEMTHATCH_REFUSED_DESTINATION;
+    return number <= GEMTHATCH_REFUSED_ENTRY || number == GEMTHATCH_REFUSED_DESTINATION;
 }
 
 int main(void)
@@ -292,6 +345,7 @@ int main(void)
     destinations();
     parameters();
     tables();
+    log_records();
     searches();
     walks();
     tallies();

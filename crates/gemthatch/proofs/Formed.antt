@@ -29,11 +29,14 @@ use Rattle.table.specs.Memory.{channel, stateOf, tableOf, channelOf, callRefusa
 use Rattle.table.specs.Slots.{slotAnswer, stateNumber, slotSaid}
 use Rattle.table.proofs.Calls.{callRefusal-unsound, refused-gives, accepted-gives}
 use Rattle.table.proofs.Memory.{length-kept}
+use Rattle.log.specs.declared.Entry.{Entry}
+use Rattle.log.specs.Entries.{byCall, entrySays, entryLeaves, entryReturned}
+use Rattle.log.proofs.Entries.{entryOf-elim}
 use Rattle.search.specs.declared.Picked.{Picked}
 use Rattle.search.specs.Search.{searched, picked}
 use Rattle.search.proofs.Answers.{found-fits}
-use Rattle.gemthatch.specs.OverC.{overC, callNumber}
-use Rattle.gemthatch.specs.Claims.{moved, formed, StateFormed, StateOpened, RefusalTold, ReportedSmall, FoundSmall, SlotSmall, RateSmall, PickSmall}
+use Rattle.gemthatch.specs.OverC.{overC, callNumber, entryNumber}
+use Rattle.gemthatch.specs.Claims.{moved, formed, slotIn, formedByEntry, StateFormed, EntryFormed, StateOpened, RefusalTold, ReportedSmall, FoundSmall, SlotSmall, RateSmall, PickSmall}
 use Rattle.gemthatch.proofs.Most.{returned-callNumber}
 
 -- ---- overC
@@ -168,6 +171,22 @@ state-formed s b (look f) = go (leb 2_000_000_000 (callNumber (channel s b) (loo
     go : (t : Bool) → cond t s s ≡ s
     go true = refl
     go false = refl
+
+pub entry-formed : EntryFormed
+unfolding entryNumber entrySays entryReturned entryLeaves callNumber returned
+entry-formed s b o =
+    entryOf-elim Formed o (rw (overC-refused 23 0 (omega arith)))
+    (λ h. rw h (state-formed s b (clock (slotIn o))))
+    (λ h q. rw h (state-formed s b (reserve q)))
+    (λ h station d limit. rw h (state-formed s b (distance station d limit)))
+    (λ h station. rw h (state-formed s b (wipe station)))
+  where
+    -- what is claimed where the octets ask for an entry
+    Formed : Entry → Type 0
+    Formed e =
+        let m = channel s b in
+        let a = byCall e (says m) (record { refusal = 23; number = 0 }) in
+        formedByEntry s o (overC (a .refusal) (a .number)) ≡ stateOf (byCall e (leaves m) m)
 
 pub state-opened : StateOpened
 unfolding openReturned openLeaves

@@ -1,5 +1,6 @@
 -- No refusal is above the largest, so each fits behind 2,000,000,000; and what a method returned, as one number. Assumes nothing.
 use Prim.Native.Nat.{ℕ, _%_, _≤_}
+use native.Mathlib.Omega.{arith}
 use mathlib.Core.Path.{_≡_, refl, ap}
 use mathlib.Core.Bool.{false, not, true≢false}
 use mathlib.Core.List.{List, [], _∷_}
@@ -16,10 +17,13 @@ use Rattle.table.specs.Table.{Call, clock, reserve, distance, wipe, look, isLoo
 use Rattle.table.specs.declared.Answer.{Answer}
 use Rattle.table.specs.Memory.{tableOf, callRefusal, says, returned, openRefusal}
 use Rattle.table.specs.Slots.{slotState, slotRefusal, slotAnswer, slotSaid}
+use Rattle.log.specs.declared.Entry.{Entry}
+use Rattle.log.specs.declared.Entry.the-variants.{Clock, Reserve, SetDistance, Wipe, NoCall}
+use Rattle.log.specs.Entries.{byCall, entryOf, entrySays, entryReturned}
 use Rattle.search.specs.declared.Query.{Query}
 use Rattle.search.specs.declared.Picked.{Picked}
 use Rattle.search.specs.Search as Search
-use Rattle.gemthatch.specs.OverC.{largestRefusal, overC, callNumber}
+use Rattle.gemthatch.specs.OverC.{largestRefusal, overC, callNumber, entryNumber}
 
 -- ---- the table
 
@@ -42,6 +46,25 @@ module _ (a : Answer) (m : Channel) (c : Call) (e : a ≡ returned m c) where
   pub returned-callNumber : overC (a .refusal) (a .number) ≡ callNumber m c
   unfolding returned callNumber
   returned-callNumber = ap (λ (x : Answer). overC (x .refusal) (x .number)) e
+
+-- what an entry asks for has no larger number, nor has 23
+byCall-most : (m : Channel) (e : Entry) → byCall e (says m) (record { refusal = 23; number = 0 }) .refusal ≤ largestRefusal
+byCall-most m (Clock slot) = says-most m (clock slot) refl
+byCall-most m (Reserve q) = says-most m (reserve q) refl
+byCall-most m (SetDistance s d limit) = says-most m (distance s d limit) refl
+byCall-most m (Wipe s) = says-most m (wipe s) refl
+byCall-most m NoCall = omega arith
+
+-- what the step of a log record returned
+module _ (a : Answer) (m : Channel) (o : List ℕ) (e : a ≡ entryReturned m o) where
+  pub entry-most : a .refusal ≤ largestRefusal
+  unfolding entryReturned entrySays
+  entry-most = rw e (byCall-most m (entryOf o))
+
+  -- as one number
+  pub returned-entryNumber : overC (a .refusal) (a .number) ≡ entryNumber m o
+  unfolding entryReturned entryNumber
+  returned-entryNumber = ap (λ (x : Answer). overC (x .refusal) (x .number)) e
 
 pub open-most : (m1 : ℕ) (b : List ℕ) → openRefusal m1 b ≤ largestRefusal
 unfolding openRefusal

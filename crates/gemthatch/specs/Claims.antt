@@ -3,7 +3,8 @@ use Prim.Native.Nat.{ℕ, _+_, _-_, _<_, _≤_}
 use mathlib.Core.Path.{_≡_}
 use mathlib.Core.Bool.{false, cond}
 use mathlib.Core.List.{List}
-use lib.Dec.{leb}
+use lib.Dec.{leb, eqb}
+use Rattle.octets.specs.Octets.{numberAt}
 use Rattle.codec.specs.declared.Block.{Block}
 use Rattle.codec.specs.Rates.{rateLookup}
 use Rattle.sound.specs.Sound.{Channel}
@@ -11,9 +12,10 @@ use Rattle.table.specs.declared.State.{State}
 use Rattle.table.specs.Table.{Call, clock, reserve, distance, wipe, look, isLook}
 use Rattle.table.specs.Memory.{channel, says, returned, openRefusal, openReturned}
 use Rattle.table.specs.Slots.{slotAnswer, slotSaid}
+use Rattle.log.specs.Entries.{entryReturned}
 use Rattle.search.specs.declared.Query.{Query}
 use Rattle.search.specs.Search.{searched, picked}
-use Rattle.gemthatch.specs.OverC.{hostBlock, blockFrom, overC, callNumber}
+use Rattle.gemthatch.specs.OverC.{hostBlock, blockFrom, overC, callNumber, entryNumber}
 
 -- ---- what the host makes of a number
 
@@ -33,6 +35,25 @@ moved s (look f) x = s
 abbrev pub formed : State → Call → ℕ → State
 formed s c x = cond (leb 2_000_000_000 x) s (moved s c x)
 
+-- the operation and the slot in the octets of a log record
+abbrev pub operationIn : List ℕ → ℕ
+operationIn o = numberAt 1 o 0
+
+abbrev pub slotIn : List ℕ → ℕ
+slotIn o = numberAt 4 o 8
+
+-- the state that an accepted log record leaves, formed from its operation and the number returned: 1 clock, 2 reserve, 4 wipe
+abbrev pub entryMoved : State → List ℕ → ℕ → State
+entryMoved s o x =
+    cond (eqb (operationIn o) 1) (record { m1 = s .m1; now = slotIn o; count = s .count - x })
+    (cond (eqb (operationIn o) 2) (record { m1 = s .m1; now = s .now; count = s .count + 1 })
+    (cond (eqb (operationIn o) 4) (record { m1 = s .m1; now = s .now; count = s .count - x })
+    s))
+
+-- the next state: as it was where the log record was refused
+abbrev pub formedByEntry : State → List ℕ → ℕ → State
+formedByEntry s o x = cond (leb 2_000_000_000 x) s (entryMoved s o x)
+
 -- after an opening: M1, 0, 0, and all 0 where it was refused
 abbrev pub formedByOpen : ℕ → ℕ → State
 formedByOpen m1 x = cond (leb 2_000_000_000 x) (record { m1 = 0; now = 0; count = 0 }) (record { m1 = m1; now = 0; count = 0 })
@@ -47,7 +68,11 @@ BlockHandedBack = (b : Block) → blockFrom (hostBlock b) ≡ b
 abbrev pub StateFormed : Type 0
 StateFormed = (s : State) (b : List ℕ) (c : Call) → formed s c (callNumber (channel s b) c) ≡ returned (channel s b) c .state
 
--- and so it is after an opening
+-- and so it is after the step of a log record
+abbrev pub EntryFormed : Type 0
+EntryFormed = (s : State) (b o : List ℕ) → formedByEntry s o (entryNumber (channel s b) o) ≡ entryReturned (channel s b) o .state
+
+-- and after an opening
 abbrev pub StateOpened : Type 0
 StateOpened = (m1 : ℕ) (b : List ℕ) → formedByOpen m1 (overC (openRefusal m1 b) 0) ≡ openReturned m1 b .state
 
@@ -78,6 +103,7 @@ PickSmall = (n r : ℕ) → picked n r .place < 16
 pub record Claims : Type 0 where
   pub block-handed-back : BlockHandedBack
   pub state-formed : StateFormed
+  pub entry-formed : EntryFormed
   pub state-opened : StateOpened
   pub refusal-told : RefusalTold
   pub reported-small : ReportedSmall

@@ -18,6 +18,7 @@ use Rattle.table.specs.declared.Request.{Request}
 use Rattle.table.specs.Table.{Call}
 use Rattle.table.specs.Memory.{channel, says}
 use Rattle.table.specs.Slots.{slotAnswer, slotSaid}
+use Rattle.log.specs.Entries.{entrySays}
 use Rattle.walk.specs.declared.Handed.{Handed}
 use Rattle.walk.specs.declared.Handed.the-variants.{One, NoMore}
 use Rattle.walk.specs.Walk.{recordAt}
@@ -117,6 +118,10 @@ query lo hi length wanted = record { lo = lo; hi = hi; length = length; wanted =
 -- clock, reserve, distance and wipe
 unfoldable pub callNumber : Channel → Call → ℕ
 callNumber m c = overC (says m c .refusal) (says m c .number)
+
+-- the step of a log record
+unfoldable pub entryNumber : Channel → List ℕ → ℕ
+entryNumber m o = overC (entrySays m o .refusal) (entrySays m o .number)
 
 -- the slot state: 0 free, 1 reusable, 2 taken
 unfoldable pub slotNumber : Channel → ℕ → ℕ

@@ -27,8 +27,9 @@ ghost use Rattle.distance.specs.Distances.{distanceOf};
 ghost use Rattle.table.specs.Table.{clock, reserve, distance, wipe};
 ghost use Rattle.table.specs.Memory.{channel, leaves, openRefusal, openLeaves};
 ghost use Rattle.table.specs.Slots.{stateNumber};
+ghost use Rattle.log.specs.Entries.{entryLeaves};
 ghost use Rattle.search.specs.Search.{found, searched, picked};
-ghost use Rattle.gemthatch.specs.OverC.{largestRefusal, overC, hostBlock, hostReading, destinationFrom, blockFrom, lent, request, query, callNumber, slotNumber, searchNumber, inOctets, searchList, placeAt};
+ghost use Rattle.gemthatch.specs.OverC.{largestRefusal, overC, hostBlock, hostReading, destinationFrom, blockFrom, lent, request, query, callNumber, entryNumber, slotNumber, searchNumber, inOctets, searchList, placeAt};
 ghost use Rattle.gemthatch.specs.Claims.{Claims};
 
 // The fields of a reservation as a C host has them: the destination's kind, 0 an address and 1 no re-broadcast, the address, the three
@@ -339,6 +340,27 @@ pub extern "C" fn gemthatch_wipe(
         count,
     };
     let a = s.wipe(memory, station);
+    over_c(a.refusal, a.number)
+}
+
+// Applies a log record. Refused 23 where it is none, before anything that its call is refused for.
+#[no_mangle]
+pub extern "C" fn gemthatch_replay_step(
+    memory: &mut [u8],
+    m1: u32,
+    time: u32,
+    count: u32,
+    entry: &[u8],
+) -> u32
+    ensures answer { λ r. ⌜ r ≡ entryNumber (lent m1 time count (now (memory .entry))) (now (entry .entry)) ⌝ }
+    ensures memory { λ _. ⌜ now (memory .exit) ≡ entryLeaves (lent m1 time count (now (memory .entry))) (now (entry .entry)) .memory ⌝ }
+{
+    let s = State {
+        m1,
+        now: time,
+        count,
+    };
+    let a = log::step(s, memory, entry);
     over_c(a.refusal, a.number)
 }
 

@@ -1,6 +1,6 @@
 -- `gemthatch::claims` promises what the laws prove. Assumes nothing.
 use Rattle.gemthatch.proofs.Blocks.{block-handed-back}
-use Rattle.gemthatch.proofs.Formed.{state-formed, state-opened, refusal-told, reported-small, found-small, slot-small, rate-small, pick-small}
+use Rattle.gemthatch.proofs.Formed.{state-formed, entry-formed, state-opened, refusal-told, reported-small, found-small, slot-small, rate-small, pick-small}
 use Rattle.gemthatch.proofs.claims.Statement.{statement}
 use Rattle.gemthatch.proofs.claims.Tie as tie
 
@@ -9,6 +9,7 @@ returns c =
     record {
       block-handed-back = block-handed-back;
       state-formed = state-formed;
+      entry-formed = entry-formed;
       state-opened = state-opened;
       refusal-told = refusal-told;
       reported-small = reported-small;
