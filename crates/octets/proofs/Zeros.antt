@@ -1,17 +1,26 @@
 -- Laws of `zeros`, of a loop that writes zeros from a place on (the octets half-way, and `zeroFrom` at its end), and of `holdsOnly`. Assumes nothing.
 use Prim.Native.Nat.{ℕ, zero, suc, _+_, _-_, _<_, _≤_}
 use mathlib.Core.Path.{_≡_, refl, _∙_, sym}
-use mathlib.Core.Bool.{true, and-eq-true-iff}
+use mathlib.Core.Bool.{true, _&&_, and-false, and-eq-true-iff}
 use mathlib.Core.List.{List, [], _∷_, _++_, append-assoc, append-nil}
 use native.Mathlib.Numerals.{add-one}
 use native.Mathlib.Omega.{arith}
 use lib.Dec.{eqb}
-use borrow.Author.Tests.{eqb-true}
+use borrow.Author.Tests.{eqb-true, eq-eqb, ne-eqb}
+use Rattle.octets.proofs.Refusals.{by-test}
 use lib.ListN.{length, getD, take, drop, set, replicate, length-append, length-replicate, replicate-append-replicate, drop-of-length-le, take-append-drop}
 use lib.Seq.{sets, drop-cons, set-at, length-take-le}
 use Rattle.octets.specs.Octets.{zeros, zeroFrom, holdsOnly}
 
 -- ---- zeros
+
+-- the greater of two is 0 where both are: the right one
+pub greater-right : (a b : ℕ) → a < b → eqb b 0 ≡ (eqb a 0 && eqb b 0)
+greater-right a b h = rw (ne-eqb b 0 (omega arith), and-false)
+
+-- or the left one
+pub greater-left : (a b : ℕ) → b ≤ a → eqb a 0 ≡ (eqb a 0 && eqb b 0)
+greater-left a b h = by-test (eqb a 0) (λ e. let z = eqb-true a 0 e in rw (e, eq-eqb b 0 (omega arith))) (λ e. rw e)
 
 -- a run of zeros is all zeros
 pub zeros-replicate : (n : ℕ) → zeros (replicate n 0) ≡ true

@@ -1,7 +1,9 @@
 // Little-endian numbers in octets, two's complement, and octets that are 0.
 ghost use mathlib.Core.Path.{_≡_};
 ghost use Prim.Native.Nat.{_+_, _<_, _≤_};
+ghost use mathlib.Core.Bool.{_&&_};
 ghost use mathlib.Core.List.{_∷_, [], _++_};
+ghost use lib.Dec.{eqb};
 ghost use lib.ListN.{length, take, drop};
 ghost use Rattle.octets.specs.Octets.{little, number, numberAt, putAt, zeros, zeroFrom, toFront};
 ghost use Rattle.octets.specs.Complement.{signedOf};
@@ -93,17 +95,26 @@ pub fn signed(x: u8) -> i32
     if x < 128 { x as i32 } else { (x as i32) - 256 }
 }
 
-// Whether every octet from `at` on is 0. It looks at all of them: without an early way out the loop is vectorised.
+fn greater(a: u8, b: u8) -> u8
+    ensures { λ r. ⌜ eqb r 0 ≡ (eqb a 0 && eqb b 0) ⌝ }
+{
+    if a < b {
+        return b;
+    }
+    a
+}
+
+// Whether every octet from `at` on is 0, by the greatest of them. It looks at all: without an early way out the loop is vectorised.
 pub fn zero_from(memory: &[u8], at: usize) -> bool
     ensures { λ r. ⌜ r ≡ zeros (drop at (now (memory .entry))) ⌝ }
 {
-    let mut so_far = true;
+    let mut greatest = 0;
     let mut i = at;
     while i < memory.len() {
-        so_far = so_far & (memory[i] == 0);
+        greatest = greater(greatest, memory[i]);
         i += 1;
     }
-    so_far
+    greatest == 0
 }
 
 // Makes every octet from `at` on 0.

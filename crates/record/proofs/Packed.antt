@@ -4,15 +4,15 @@ use native.Mathlib.Nat.{div-eq-of-eq-mul-left, mul-mod-left, zero-mul}
 use native.Mathlib.Omega.{arith}
 use mathlib.Core.Path.{_≡_, ap, _∙_, sym}
 use mathlib.Core.Bool.{true}
-use mathlib.Core.List.{List, [], _∷_, _++_, map}
+use mathlib.Core.List.{List, [], _∷_, _++_, map, append-assoc}
 use lib.Dec.{lit<}
 use lib.ListN.{length, take, drop, replicate, length-append, length-drop, length-map, length-replicate, replicate-append-replicate, take-append-drop}
 use lib.Seq.{drop-at, drop-drop, length-take-le}
-use borrow.Author.Tests.{eq-eqb}
+use borrow.Author.Tests.{le-leb, eq-eqb}
 use Rattle.octets.specs.Octets.{AreOctets, zeros}
 use Rattle.octets.proofs.Zeros.{zeros-replicate, zeros-true}
 use Rattle.record.specs.declared.Rec.{Rec}
-use Rattle.record.specs.Record.{size, AllFit, image, whole, capacity, rest, clearAfter, packed, allRecords, stored}
+use Rattle.record.specs.Record.{size, AllFit, image, whole, capacity, rest, clearAfter, clearBetween, packed, allRecords, stored}
 use Rattle.record.proofs.Images.{same-capacity, whole-length, length-image, image-append, length-allRecords, image-allRecords, allRecords-front, image-take, image-drop}
 use Rattle.record.proofs.Places.{stored-end}
 
@@ -60,6 +60,16 @@ unfolding clearAfter
 clearAfter-none m =
     let e : length m - 0 ≡ length m = omega arith in
     rw (zero-mul size, e)
+
+-- ---- clearBetween
+
+-- where nothing stands after the first n records, it is enough to clear up to there
+pub clearBetween-enough : (m : List ℕ) (i n : ℕ) → zeros (rest n m) ≡ true → i ≤ n → n ≤ capacity m → clearBetween i n m ≡ clearAfter i m
+unfolding clearBetween clearAfter rest
+clearBetween-enough m i n z h k =
+    let t : drop (n * size) m ≡ replicate (length m - n * size) 0 = rw length-drop at (zeros-true (drop (n * size) m) z) in
+    let e : (n - i) * size + (length m - n * size) ≡ length m - i * size = unfold capacity size in omega arith in
+    rw (le-leb i n h, le-leb n (capacity m) k, t, append-assoc, replicate-append-replicate, e)
 
 -- ---- what leaves a packed memory
 

@@ -1,16 +1,18 @@
 -- Laws of one record in a memory: what is read at its place, and what is written there. Assumes nothing.
-use Prim.Native.Nat.{ℕ, zero, suc, _+_, _*_, _<_, _≤_}
-use mathlib.Core.Path.{_≡_, sym, ap, _∙_}
+use Prim.Native.Nat.{ℕ, zero, suc, _+_, _-_, _*_, _<_, _≤_}
+use mathlib.Core.Path.{_≡_, refl, sym, ap, _∙_}
+use mathlib.Core.Bool.{Bool, true, false}
 use mathlib.Core.List.{List, [], _∷_, _++_, append-assoc, append-nil}
 use native.Mathlib.Nat.{zero-add, add-assoc, add-comm, zero-mul, suc-mul}
 use native.Mathlib.Omega.{arith}
-use borrow.Author.Tests.{lt-ltb, le-ltb}
-use lib.ListN.{length, getD, take, drop, set, length-drop, drop-of-length-le}
+use borrow.Author.Tests.{ltb-true, ltb-false, lt-ltb, le-ltb}
+use lib.Dec.{ltb}
+use lib.ListN.{length, getD, take, drop, set, length-append, length-drop, drop-of-length-le}
 use lib.Seq.{drop-at, take-add, drop-drop, length-take-le, sets, sets-eq, length-sets}
 use Rattle.octets.specs.Octets.{AreOctets, little, numberAt, putAt}
 use Rattle.octets.proofs.Octets.{numberAt-in, putAt-behind}
 use Rattle.record.specs.declared.Rec.{Rec}
-use Rattle.record.specs.Record.{size, fields, recordOf, littles, numbers, encode, decode, blank, FitRec, image, capacity, firstRecords, allRecords, stored}
+use Rattle.record.specs.Record.{size, fields, recordOf, littles, numbers, encode, decode, blank, FitRec, image, capacity, rest, firstRecords, allRecords, stored}
 use Rattle.record.proofs.Fields.{length-encode, decode-encode, decode-take}
 use Rattle.record.proofs.Images.{capacity-fits, same-capacity, image-append, image-take}
 
@@ -100,6 +102,20 @@ stored-at m i r h = rw (lt-ltb i (capacity m) h)
 pub stored-out : (m : List ℕ) (i : ℕ) (r : Rec) → capacity m ≤ i → stored m i r ≡ m
 unfolding stored
 stored-out m i r h = rw (le-ltb i (capacity m) h)
+
+-- a record among the first n is written: the octets after those stay
+pub rest-stored : (m : List ℕ) (k n : ℕ) (r : Rec) → k < n → rest n (stored m k r) ≡ rest n m
+unfolding rest
+rest-stored m k n r h = go (ltb k (capacity m)) refl
+  where
+    go : (b : Bool) → ltb k (capacity m) ≡ b → drop (n * size) (stored m k r) ≡ drop (n * size) m
+    go true e =
+        let l = ltb-true k (capacity m) e in
+        let a = take (k * size) m ++ encode r in
+        let j : length a ≡ k * size + size = rw (length-append, length-encode r, length-take-le (k * size) m (unfold capacity size in omega arith)) in
+        let d : n * size ≡ k * size + size + (n - k - 1) * size = unfold size in omega arith in
+        rw (stored-at m k r l, sets-encode m k r l, ← append-assoc, d, ← drop-drop ((n - k - 1) * size) (k * size + size), drop-at a (drop (k * size + size) m) (k * size + size) j, drop-drop)
+    go false e = rw (stored-out m k r (ltb-false k (capacity m) e))
 
 -- after the first i records it is one record more
 pub stored-end : (m : List ℕ) (i : ℕ) (r : Rec) → AreOctets m → length m ≡ capacity m * size → i < capacity m

@@ -1,8 +1,8 @@
 -- How records lie in the lent memory: the octets of one, of a list, and the records that a memory has room for.
 use Prim.Native.Nat.{ℕ, zero, suc, _-_, _*_, _/_, _%_, _^_, _<_}
-use mathlib.Core.Bool.{Bool, cond}
+use mathlib.Core.Bool.{Bool, cond, _&&_}
 use mathlib.Core.List.{List, [], _∷_, _++_}
-use lib.Dec.{ltb, eqb}
+use lib.Dec.{ltb, leb, eqb}
 use lib.ListN.{length as len, getD, take, drop, replicate}
 use lib.Seq.{sets}
 use Rattle.octets.specs.Octets.{little, number, zeroFrom}
@@ -89,6 +89,11 @@ rest n m = drop (n * size) m
 -- a memory with the octets after the first n records made 0
 unfoldable pub clearAfter : ℕ → List ℕ → List ℕ
 clearAfter n m = zeroFrom (n * size) m
+
+-- a memory with the octets of records i to n - 1 made 0; where n is above the capacity, or i above n, as it was
+unfoldable pub clearBetween : ℕ → ℕ → List ℕ → List ℕ
+clearBetween i n m =
+    cond (leb i n && leb n (capacity m)) (take (i * size) m ++ replicate ((n - i) * size) 0 ++ drop (n * size) m) m
 
 -- the memory of a capacity that holds these records only: their octets, then zeros
 unfoldable pub packed : ℕ → List Rec → List ℕ

@@ -3,7 +3,7 @@ ghost use mathlib.Core.Path.{_≡_};
 ghost use Prim.Native.Nat.{_<_, _≤_, min};
 ghost use lib.ListN.{length, getD, set, take};
 ghost use Rattle.octets.specs.Octets.{zeros};
-ghost use Rattle.record.specs.Record.{size, encode, decode, blank, whole, capacity, rest, clearAfter, allRecords, stored};
+ghost use Rattle.record.specs.Record.{size, encode, decode, blank, whole, capacity, rest, clearAfter, clearBetween, allRecords, stored};
 ghost use Rattle.record.specs.Claims.{Claims};
 
 // The octets of a record.
@@ -110,6 +110,16 @@ pub fn clear(memory: &mut [u8], n: usize)
 {
     if n <= memory.len() / SIZE {
         octets::clear_from(memory, n * SIZE);
+    }
+}
+
+// Makes the octets of records i to n - 1 0. Where n is above the capacity, or i above n, nothing is cleared.
+pub fn clear_between(memory: &mut [u8], i: usize, n: usize)
+    ensures { λ _. ⌜ now (memory .exit) ≡ clearBetween i n (now (memory .entry)) ⌝ }
+{
+    if (i <= n) & (n <= memory.len() / SIZE) {
+        let e = n * SIZE;
+        octets::clear_from(&mut memory[..e], i * SIZE);
     }
 }
 

@@ -3,12 +3,12 @@ use distance::Distance;
 use record::Rec;
 ghost use mathlib.Core.Path.{_≡_};
 ghost use mathlib.Core.Bool.{true};
-ghost use Prim.Native.Nat.{_+_, _≤_, _<_};
+ghost use Prim.Native.Nat.{ℕ, _+_, _≤_, _<_};
 ghost use lib.ListN.{length, getD, set, take};
 ghost use Rattle.octets.specs.Lists.{keep, has};
 ghost use Rattle.octets.specs.Refusals.{firstOf};
 ghost use Rattle.distance.specs.Distances as Distances;
-ghost use Rattle.record.specs.Record.{allRecords, blank, capacity, packed};
+ghost use Rattle.record.specs.Record.{allRecords, blank, capacity, rest, packed};
 ghost use Rattle.sound.specs.Sound.{records, sound};
 ghost use Rattle.table.specs.Table.{clock, reserve, distance, wipe, farOctet, same, ownedBy, setFar, requestTests};
 ghost use Rattle.table.specs.Memory.{channel, Gives, OpenGives};
@@ -94,7 +94,8 @@ fn does_stay(rule: Stay, r: Rec) -> bool
 // Writes record i over record k, unless they are the same: until the first record goes, nothing is moved.
 fn move_down(memory: &mut [u8], i: usize, k: usize, r: Rec)
     requires { ⌜ (k ≤ i) × (r ≡ getD (allRecords (now memory)) i blank) ⌝ }
-    ensures { λ _. ⌜ allRecords (now (memory .exit)) ≡ set (allRecords (now (memory .entry))) k r ⌝ }
+    ensures left { λ _. ⌜ allRecords (now (memory .exit)) ≡ set (allRecords (now (memory .entry))) k r ⌝ }
+    ensures behind { λ _. ⌜ ((n : ℕ) → k < n → rest n (now (memory .exit)) ≡ rest n (now (memory .entry))) ⌝ }
 {
     if k < i {
         record::store(memory, k, r);
@@ -106,6 +107,7 @@ fn sift(memory: &mut [u8], i: usize, k: usize, rule: Stay) -> usize
     requires { ⌜ (k ≤ i) × (i < capacity (now memory)) ⌝ }
     ensures next { λ r. ⌜ r ≡ sieved (stays rule) (allRecords (now (memory .entry))) i (k + 1) k ⌝ }
     ensures left { λ _. ⌜ allRecords (now (memory .exit)) ≡ set (allRecords (now (memory .entry))) k (getD (allRecords (now (memory .entry))) i blank) ⌝ }
+    ensures behind { λ _. ⌜ ((n : ℕ) → k < n → rest n (now (memory .exit)) ≡ rest n (now (memory .entry))) ⌝ }
 {
     let r = record::load(memory, i);
     move_down(memory, i, k, r);
@@ -119,6 +121,7 @@ fn sift(memory: &mut [u8], i: usize, k: usize, rule: Stay) -> usize
 fn compact(memory: &mut [u8], n: usize, rule: Stay) -> usize
     ensures kept { λ r. ⌜ r ≡ length (keep (stays rule) (take n (allRecords (now (memory .entry))))) ⌝ }
     ensures front { λ r. ⌜ take r (allRecords (now (memory .exit))) ≡ keep (stays rule) (take n (allRecords (now (memory .entry)))) ⌝ }
+    ensures behind { λ _. ⌜ rest n (now (memory .exit)) ≡ rest n (now (memory .entry)) ⌝ }
 {
     let held = record::held_count(memory, n);
     let mut i = 0;
@@ -131,6 +134,7 @@ fn compact(memory: &mut [u8], n: usize, rule: Stay) -> usize
 }
 
 // Keeps the records that stay, closes the gaps and zeros the tail of a sound table, at a time: clock and wipe.
+// Behind the records that it had, the octets of a sound table are 0 already.
 fn sweep(s: State, memory: &mut [u8], time: u32, rule: Stay) -> Answer
     requires { ⌜ sound (channel s (now memory)) ≡ true ⌝ }
     ensures answer { λ r. ⌜ r ≡ swept (channel s (now (memory .entry))) time (stays rule) ⌝ }
@@ -138,7 +142,7 @@ fn sweep(s: State, memory: &mut [u8], time: u32, rule: Stay) -> Answer
 {
     let n = s.count as usize;
     let kept = compact(memory, n, rule);
-    record::clear(memory, kept);
+    record::clear_between(memory, kept, n);
     Answer {
         refusal: 0,
         number: (n - kept) as u32,

@@ -17,16 +17,19 @@ abbrev zero : ℕ → Bool
 zero b = eqb b 0
 
 abbrev Inv-loop : tie.InvT-loop
-Inv-loop memory at so-far₀ i₀ so-far i = zeros (drop at memory) ≡ (so-far && zeros (drop i memory))
+Inv-loop memory at greatest₀ i₀ greatest i = zeros (drop at memory) ≡ (zero greatest && zeros (drop i memory))
 
 abbrev μ-loop : tie.MeasureT-loop
-μ-loop memory at so-far₀ i₀ so-far i = length memory - i
+μ-loop memory at greatest₀ i₀ greatest i = length memory - i
 
 loop-holds : tie.Need-loop-holds Inv-loop μ-loop
 loop-holds c = refl
 
-shared-slice-read-so-far : tie.Need-shared-slice-read-so-far Inv-loop μ-loop
-shared-slice-read-so-far c = search needs
+shared-slice-read-greater : tie.Need-shared-slice-read-greater Inv-loop μ-loop
+shared-slice-read-greater c = search needs
+
+greater-requires : tie.Need-greater-requires Inv-loop μ-loop
+greater-requires c κs = search needs
 
 add-i : tie.Need-add-i Inv-loop μ-loop
 add-i c = omega arith
@@ -36,15 +39,17 @@ loop-less c = omega arith
 
 loop-again : tie.Need-loop-again Inv-loop μ-loop
 loop-again c =
-    let h = c .before .before in
-    h .loop .inv ∙ every-next zero (now (h .before .args .memory)) (h .loop .i) (h .loop .so-far) 0 (c .before .loop-test .taken)
+    let t = c .before .before in
+    let h = t .before in
+    rw (c .greater .ensures)
+    (h .loop .inv ∙ every-next zero (now (h .before .before .args .memory)) (h .loop .i) (zero (h .loop .greatest)) 0 (t .loop-test .taken))
 
 returns : tie.Need-returns Inv-loop μ-loop
 returns c =
     let h = c .before in
-    every-end zero (now (h .before .args .memory)) (h .loop .i) (h .loop .so-far) (c .loop-test .left) ∙ sym (h .loop .inv)
+    every-end zero (now (h .before .before .args .memory)) (h .loop .i) (zero (h .loop .greatest)) (c .loop-test .left) ∙ sym (h .loop .inv)
 
 pub zero-from-spec : {M : Type 1} → statement M
 zero-from-spec =
     tie.close
-    (tie.spec Inv-loop μ-loop loop-holds shared-slice-read-so-far add-i loop-less loop-again returns)
+    (tie.spec Inv-loop μ-loop loop-holds shared-slice-read-greater greater-requires add-i loop-less loop-again returns)

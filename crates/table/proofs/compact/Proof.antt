@@ -5,7 +5,7 @@ use native.Mathlib.Omega.{arith}
 use borrow.Author.Needs.{needs}
 use denote.Ref.{now}
 use lib.ListN.{length}
-use Rattle.record.specs.Record.{allRecords}
+use Rattle.record.specs.Record.{allRecords, rest}
 use Rattle.record.proofs.Images.{length-allRecords, same-capacity}
 use Rattle.table.specs.Steps.{stays}
 use Rattle.table.proofs.Loops.{kept-le, Sifted, sifted-next}
@@ -13,7 +13,7 @@ use Rattle.table.proofs.compact.Statement.{statement}
 use Rattle.table.proofs.compact.Tie as tie
 
 abbrev Inv-loop : tie.InvT-loop
-Inv-loop memory₀ n rule held i₀ k₀ memory i k = (i ≤ held) × (length memory ≡ length memory₀) × Sifted (stays rule) (allRecords memory₀) (allRecords memory) i k
+Inv-loop memory₀ n rule held i₀ k₀ memory i k = (i ≤ held) × (length memory ≡ length memory₀) × Sifted (stays rule) (allRecords memory₀) (allRecords memory) i k × (rest n memory ≡ rest n memory₀)
 
 abbrev μ-loop : tie.MeasureT-loop
 μ-loop memory₀ n rule held i₀ k₀ memory i k = held - i
@@ -22,7 +22,7 @@ held-count-requires : tie.Need-held-count-requires Inv-loop μ-loop
 held-count-requires c κs = search needs
 
 loop-holds : tie.Need-loop-holds Inv-loop μ-loop
-loop-holds c = (omega arith, refl, (refl, refl, refl))
+loop-holds c = (omega arith, refl, (refl, refl, refl), refl)
 
 sift-requires : tie.Need-sift-requires Inv-loop μ-loop
 sift-requires c κs =
@@ -46,7 +46,8 @@ loop-again c =
     let sift = c .before .before .sift in (
       omega (arith, l),
       sift .kept .0 ∙ h .loop .inv .1,
-      sifted-next (stays (s .args .rule)) (allRecords m) (allRecords (h .loop .memory)) (allRecords (sift .last .0)) (h .loop .i) (h .loop .k) (sift .result) (omega (arith, l, h .before .held-count .ensures .1, length-allRecords m)) (h .loop .inv .2) (sift .ensures .0) (sift .ensures .1),
+      sifted-next (stays (s .args .rule)) (allRecords m) (allRecords (h .loop .memory)) (allRecords (sift .last .0)) (h .loop .i) (h .loop .k) (sift .result) (omega (arith, l, h .before .held-count .ensures .1, length-allRecords m)) (h .loop .inv .2) (sift .ensures .0) (sift .ensures .1 .0),
+      sift .ensures .1 .1 (s .args .n) (omega (arith, l, h .before .held-count .ensures .0, h .loop .inv .2 .0, kept-le (stays (s .args .rule)) (allRecords m) (h .loop .i))) ∙ h .loop .inv .3,
     )
 
 same-length : tie.Need-same-length Inv-loop μ-loop
@@ -57,7 +58,7 @@ returns c =
     let h = c .before in
     let n = h .before .held-count in
     let e : n .result ≡ h .loop .i = omega arith in
-    rw (← n .ensures .2, e) (h .loop .inv .2 .0, h .loop .inv .2 .1)
+    rw (← n .ensures .2, e) (h .loop .inv .2 .0, (h .loop .inv .2 .1, h .loop .inv .3))
 
 pub compact-spec : {M : Type 1} → statement M
 compact-spec =

@@ -1,4 +1,4 @@
--- `table::sweep` meets its contract: what stays is the front of the memory, and the rest is made 0. Assumes nothing.
+-- `table::sweep` meets its contract: what stays is the front of the memory, and what it leaves free of the records there were is made 0. Assumes nothing.
 use Prim.Native.Nat.{_≤_}
 use native.Mathlib.Omega.{arith}
 use mathlib.Core.Path.{_∙_}
@@ -37,8 +37,8 @@ cast-n c = search needs
 compact-requires : tie.Need-compact-requires
 compact-requires c κs = search needs
 
-clear-requires : tie.Need-clear-requires
-clear-requires c κs = search needs
+clear-between-requires : tie.Need-clear-between-requires
+clear-between-requires c κs = search needs
 
 sub-t12 : tie.Need-sub-t12
 sub-t12 c = kept-most (c .before .before .before .before .before .before)
@@ -52,7 +52,7 @@ cast-t14 c =
     omega (arith, kept-most x, all-held x .room, all-held x .capacity-most)
 
 same-length : tie.Need-same-length
-same-length c = c .before .before .clear .kept .0 ∙ c .before .before .before .before .before .before .compact .kept .0
+same-length c = c .before .before .clear-between .kept .0 ∙ c .before .before .before .before .before .before .compact .kept .0
 
 returns : tie.Need-returns
 unfolding records
@@ -60,10 +60,10 @@ returns c =
     let at-slice = c .before .before .before .before in
     let x = at-slice .before .before in
     let kept = x .compact in
-    let g = sweep-is (given x) (all-held x) (entry x .args .time) (stays (entry x .args .rule)) (kept .result) (kept .last .0) (λ i. at-slice .slice-known2 .given i .fits) (kept .kept .0) (kept .ensures .0) (kept .ensures .1) in
-    (g .0, c .before .before .clear .ensures ∙ g .1)
+    let g = sweep-is (given x) (all-held x) (entry x .args .time) (stays (entry x .args .rule)) (kept .result) (kept .last .0) (λ i. at-slice .slice-known2 .given i .fits) (kept .kept .0) (kept .ensures .0) (kept .ensures .1 .0) (kept .ensures .1 .1) in
+    (g .0, c .before .before .clear-between .ensures ∙ g .1)
 
 pub sweep-spec : {M : Type 1} → statement M
 sweep-spec =
     tie.close
-    (tie.spec cast-n compact-requires clear-requires sub-t12 cast-t13 cast-t14 same-length returns)
+    (tie.spec cast-n compact-requires clear-between-requires sub-t12 cast-t13 cast-t14 same-length returns)
