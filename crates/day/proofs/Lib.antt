@@ -5,3 +5,4 @@ pub mod Pieces
 pub mod Tenant
 pub mod Replays
 pub mod Moments
+pub mod Programs

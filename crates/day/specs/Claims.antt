@@ -6,14 +6,16 @@ use mathlib.Core.List.{List, [], _∷_, _++_}
 use lib.ListN.{length as len, getD, take, replicate}
 use Rattle.octets.specs.Lists.{keep, every}
 use Rattle.octets.specs.Octets.{little}
+use Rattle.record.specs.Record.{packed}
 use Rattle.sound.specs.Sound.{Channel}
 use Rattle.table.specs.Table.{Said, Call}
 use Rattle.table.specs.Memory.{openRefusal, opened}
 use Rattle.trace.specs.Machine.{runs, transcript}
 use Rattle.trace.specs.Sequences.{onOctets, names, only, othersTold, othersHadRoom}
 use Rattle.log.specs.Entries.{entryOf, byCall, entrySays}
+use Rattle.lines.specs.Text.{text}
 use Rattle.lines.specs.Day.{saidLine}
-use Rattle.day.specs.Day.{entryAt, entryCount, entries, onLog, replayed, logLines, joined}
+use Rattle.day.specs.Day.{entryAt, entryCount, entries, onLog, replayed, logLines, joined, replayText, momentText}
 
 -- ---- the same calls made by hand
 
@@ -96,6 +98,16 @@ TenantTakenOut =
     × (othersTold (only A) (callsTold (transcript onLog m (entries s)))
     ≡ othersTold (only A) (callsTold (transcript onLog m (entries (withoutTenant A s)))))
 
+-- ---- the programs
+
+-- the table that they open is accepted
+abbrev pub DayAccepted : Type 0
+DayAccepted = openRefusal 4500 (packed 2048 []) ≡ 0
+
+-- an empty log gives no line, and the table as it was opened
+abbrev pub EmptyLog : Type 0
+EmptyLog = (replayText [] ≡ []) × (momentText [] ≡ text "4500 0 0\n")
+
 pub record Claims : Type 0 where
   pub by-hand : ByHand
   pub no-call-says : NoCallSays
@@ -104,3 +116,5 @@ pub record Claims : Type 0 where
   pub in-pieces : InPieces
   pub cut-after : CutAfter
   pub tenant-taken-out : TenantTakenOut
+  pub day-accepted : DayAccepted
+  pub empty-log : EmptyLog

@@ -5,9 +5,10 @@ use mathlib.Core.List.{List, [], _∷_, _++_, map}
 use lib.Dec.{leb, ltb}
 use lib.ListN.{length as len, take, drop}
 use Rattle.octets.specs.Lists.{from}
+use Rattle.record.specs.Record.{packed}
 use Rattle.sound.specs.Sound.{Channel, records}
 use Rattle.table.specs.Table.{Said}
-use Rattle.table.specs.Memory.{stateOf}
+use Rattle.table.specs.Memory.{stateOf, opened}
 use Rattle.trace.specs.Machine.{Machine, runs, transcript}
 use Rattle.log.specs.Entries.{entrySays, entryLeaves}
 use Rattle.lines.specs.Day.{saidLine, stateLine, recordLine, lineRoom}
@@ -75,3 +76,17 @@ momentLines m = stateLine (m .m1) (m .now) (m .count) ∷ map recordLine (record
 -- the text that is lent gets them all, or none where it has no room for a longest line for each
 unfoldable pub momentIn : Channel → List ℕ → List ℕ
 momentIn m t = cond (leb ((len (records m) + 1) * lineRoom) (len t)) (joined (momentLines m)) []
+
+-- ---- the programs
+
+-- the table that they open: 2,048 records, M1 4500
+abbrev pub dayOpened : Channel
+dayOpened = opened 4500 (packed 2048 [])
+
+-- what `replay` writes of a log
+abbrev pub replayText : List ℕ → List ℕ
+replayText s = joined (logLines 1 dayOpened s)
+
+-- what `moment` writes of it
+abbrev pub momentText : List ℕ → List ℕ
+momentText s = joined (momentLines (replayed dayOpened s))

@@ -2,6 +2,7 @@
 use Rattle.day.proofs.ByHand.{by-hand, no-call-says}
 use Rattle.day.proofs.Pieces.{line-for-each, incomplete-last, in-pieces, cut-after}
 use Rattle.day.proofs.Tenant.{tenant-taken-out}
+use Rattle.day.proofs.Programs.{day-accepted, empty-log}
 use Rattle.day.proofs.claims.Statement.{statement}
 use Rattle.day.proofs.claims.Tie as tie
 
@@ -15,6 +16,8 @@ returns c =
       in-pieces = in-pieces;
       cut-after = cut-after;
       tenant-taken-out = tenant-taken-out;
+      day-accepted = day-accepted;
+      empty-log = empty-log;
     }
 
 pub claims-spec : {M : Type 1} → statement M
