@@ -206,6 +206,18 @@ pub fn wipe(memory: &mut Lent, state: State, station: u32) -> Result<u32, String
     })
 }
 
+/// The log record is lent inside guards of its own.
+pub fn replay_step(memory: &mut Lent, state: State, entry: &[u8]) -> Result<u32, String> {
+    let State { m1, now, count } = state;
+    unchanged(&mut Lent::holding(entry), |entry, entry_octets| {
+        alike(memory, |memory, octets| {
+            // SAFETY: so many octets are lent for the time of the call, and
+            // the two slices lie apart.
+            unsafe { gemthatch_replay_step(memory, octets, m1, now, count, entry, entry_octets) }
+        })
+    })?
+}
+
 pub fn slot_state(memory: &mut Lent, state: State, slot: u32) -> Result<u32, String> {
     let State { m1, now, count } = state;
     unchanged(memory, |memory, octets| {

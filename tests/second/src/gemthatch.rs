@@ -114,6 +114,15 @@ extern "C" {
         count: u32,
         station: u32,
     ) -> u32;
+    pub fn gemthatch_replay_step(
+        memory: *mut u8,
+        octets: usize,
+        m1: u32,
+        now: u32,
+        count: u32,
+        entry: *const u8,
+        entry_octets: usize,
+    ) -> u32;
     pub fn gemthatch_slot_state(
         memory: *const u8,
         octets: usize,

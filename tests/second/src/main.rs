@@ -8,10 +8,13 @@ mod draw;
 mod gemthatch;
 mod groups;
 mod listing;
+mod logs;
 mod paper;
 mod plain;
+mod replay;
 mod report;
 mod run;
+mod subject;
 mod temp;
 
 use std::path::PathBuf;
@@ -19,8 +22,9 @@ use std::process::ExitCode;
 
 use report::Report;
 
-const USAGE: &str = "usage: second archive | second listing PATH | second bench-calls | \
-                     second bench-listing PATH PEER";
+const USAGE: &str = "usage: second archive | second listing PATH | second replay REPLAY MOMENT | \
+                     second bench-calls | second bench-listing PATH PEER | \
+                     second bench-replay REPLAY PEER";
 
 /// A path that names the same file whatever the search path says.
 fn program(path: &str) -> PathBuf {
@@ -36,6 +40,11 @@ fn main() -> ExitCode {
             listing::check(&program(path), &mut report);
             report.close()
         }
+        ["replay", replay, moment] => {
+            let mut report = Report::default();
+            replay::check(&program(replay), &program(moment), &mut report);
+            report.close()
+        }
         ["archive"] => {
             let mut report = Report::default();
             calls::check(&mut report);
@@ -43,8 +52,9 @@ fn main() -> ExitCode {
         }
         ["bench-calls"] => bench::calls(),
         ["bench-listing", path, peer] => bench::listing(&program(path), &program(peer)),
+        ["bench-replay", replay, peer] => bench::replay(&program(replay), &program(peer)),
         ["write-singly", count] => {
-            listing::write_singly(count.parse().unwrap_or(0));
+            subject::write_singly(count.parse().unwrap_or(0));
             ExitCode::SUCCESS
         }
         _ => {

@@ -2,6 +2,12 @@
 
 use std::process::ExitCode;
 
+/// Octets as they stand in a message.
+pub fn hex(octets: &[u8]) -> String {
+    let octets: Vec<String> = octets.iter().map(|octet| format!("{octet:02X}")).collect();
+    octets.join(" ")
+}
+
 /// Says what was compared, or gives the first difference.
 pub type Verdict = Result<String, String>;
 

@@ -7,9 +7,11 @@ use std::sync::{Condvar, Mutex};
 use std::thread;
 use std::time::{Duration, Instant};
 
-/// Far longer than an answer takes: only a program that hangs meets it. A
-/// whole run gets thrice the time, so that the wait that failed is told.
+/// Far longer than an answer takes: only a program that hangs meets it.
 pub const LIMIT: Duration = Duration::from_secs(10);
+
+/// A whole run gets thrice the time, so that the wait that failed is told.
+pub const RUN_LIMIT: Duration = Duration::from_secs(30);
 
 pub struct Outcome {
     pub output: Vec<u8>,
@@ -89,12 +91,12 @@ impl Seen {
 }
 
 /// Waits for the child's end, which comes by force after the limit.
-fn wait(child: &mut Child) -> Result<ExitStatus, String> {
+fn wait(child: &mut Child, limit: Duration) -> Result<ExitStatus, String> {
     let start = Instant::now();
     loop {
         match child.try_wait() {
             Ok(Some(status)) => return Ok(status),
-            Ok(None) if start.elapsed() < 3 * LIMIT => thread::sleep(Duration::from_millis(1)),
+            Ok(None) if start.elapsed() < limit => thread::sleep(Duration::from_millis(1)),
             other => {
                 let _ = child.kill();
                 let _ = child.wait();
@@ -110,7 +112,21 @@ fn wait(child: &mut Child) -> Result<ExitStatus, String> {
 /// Runs a command on standard streams of any kind. With `Stdio::piped()` as
 /// standard input `feed` writes it; it ends when `feed` returns. Without a
 /// pipe `feed` isn't called.
-pub fn run<F>(mut command: Command, input: Stdio, output: Stdio, feed: F) -> Result<Outcome, String>
+pub fn run<F>(command: Command, input: Stdio, output: Stdio, feed: F) -> Result<Outcome, String>
+where
+    F: FnOnce(&mut ChildStdin, &Seen) -> Result<(), String> + Send,
+{
+    run_within(RUN_LIMIT, command, input, output, feed)
+}
+
+/// The same with another limit.
+pub fn run_within<F>(
+    limit: Duration,
+    mut command: Command,
+    input: Stdio,
+    output: Stdio,
+    feed: F,
+) -> Result<Outcome, String>
 where
     F: FnOnce(&mut ChildStdin, &Seen) -> Result<(), String> + Send,
 {
@@ -138,7 +154,7 @@ where
                 fed
             })
         });
-        let status = wait(&mut child);
+        let status = wait(&mut child, limit);
         let fed = feeder.map_or(Ok(()), |feeder| feeder.join().unwrap());
         (status, fed)
     });

@@ -85,6 +85,21 @@ pub fn wipe(memory: &mut [u8], state: State, station: u32) -> u32 {
     unsafe { gemthatch::gemthatch_wipe(memory.as_mut_ptr(), memory.len(), m1, now, count, station) }
 }
 
+pub fn replay_step(memory: &mut [u8], state: State, entry: &[u8]) -> u32 {
+    let State { m1, now, count } = state;
+    unsafe {
+        gemthatch::gemthatch_replay_step(
+            memory.as_mut_ptr(),
+            memory.len(),
+            m1,
+            now,
+            count,
+            entry.as_ptr(),
+            entry.len(),
+        )
+    }
+}
+
 pub fn slot_state(memory: &[u8], state: State, slot: u32) -> u32 {
     let State { m1, now, count } = state;
     unsafe { gemthatch::gemthatch_slot_state(memory.as_ptr(), memory.len(), m1, now, count, slot) }

@@ -9,6 +9,7 @@ use super::figures::{three_digits, time, Figures, Side, ROUNDS};
 use super::tables::{Kind, Setting, Table};
 use crate::draw::Draw;
 use crate::gemthatch::REFUSED;
+use crate::logs;
 use crate::plain::{self, Answer, Distance, Range, State, Wish};
 
 const CAPACITIES: [usize; 3] = [2048, 64, 1];
@@ -362,6 +363,30 @@ fn search_small(setting: Setting) -> Result<Figures, String> {
     })
 }
 
+/// A log record of any operation where one place is free.
+fn replay_step(setting: Setting) -> Result<Figures, String> {
+    let inputs = inputs(setting, |mut table, draw| {
+        table.records.pop();
+        let station = draw.one_of(&table.stations);
+        let entry = match draw.below(4) {
+            0 => logs::clock(table.now + draw.below(4)),
+            1 => logs::reserve(station, 2 + draw.below(254)),
+            2 => logs::distance(station, draw.below(400), 150),
+            _ => logs::wipe(station),
+        };
+        Input::new(&table, entry.octets())
+    });
+    measure(
+        &inputs,
+        |lent, input| archive::replay_step(&mut lent.memory, input.state, &input.asked),
+        |lent, input| {
+            let Lent { memory, .. } = lent;
+            number(plain::step(memory, input.state, &input.asked, false))
+        },
+        |answer| accepted(answer) || answer == REFUSED + 16,
+    )
+}
+
 /// Any place, and the first one past the end.
 fn record_at(setting: Setting) -> Result<Figures, String> {
     let inputs = inputs(setting, |table, draw| {
@@ -377,7 +402,7 @@ fn record_at(setting: Setting) -> Result<Figures, String> {
 
 type Bench = fn(Setting) -> Result<Figures, String>;
 
-const CALLS: [(&str, Bench); 12] = [
+const CALLS: [(&str, Bench); 13] = [
     ("open", open),
     ("reserve, new", reserve_new),
     ("reserve, held", reserve_held),
@@ -390,6 +415,7 @@ const CALLS: [(&str, Bench); 12] = [
     ("search, whole", search_whole),
     ("search, small", search_small),
     ("record at", record_at),
+    ("replay step", replay_step),
 ];
 
 /// Prints the ratios of a call, and gives the worst of them on full tables. Adds

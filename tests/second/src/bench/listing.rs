@@ -1,11 +1,9 @@
 //! The listing beside its peers, a plain program and a tuned one.
 
-use std::fs::OpenOptions;
 use std::path::Path;
-use std::process::{Command, Stdio};
-use std::time::Instant;
+use std::process::Stdio;
 
-use super::median;
+use super::programs::{by_turns, null, Program};
 use crate::draw::Draw;
 use crate::groups;
 use crate::temp::Temp;
@@ -26,42 +24,14 @@ fn input() -> Vec<u8> {
     })
 }
 
-/// A program and its words.
-type Program<'a> = (&'a Path, &'a [&'a str]);
-
-/// Milliseconds from the program's start to its end.
-fn time((program, words): Program, source: &Temp, output: Stdio) -> Result<f64, String> {
-    let mut command = Command::new(program);
-    command.args(words).stdin(source.source()?).stdout(output);
-    let start = Instant::now();
-    let status = command.status();
-    let elapsed = start.elapsed().as_secs_f64() * 1e3;
-    match status {
-        Ok(status) if status.success() => Ok(elapsed),
-        Ok(status) => Err(format!("{}: {status}", program.display())),
-        Err(error) => Err(format!("{}: {error}", program.display())),
-    }
-}
-
-/// One row of the table: the programs by turns, so that a busy spell of the
-/// machine meets all of them.
+/// One row of the table.
 fn row(
     name: &str,
     programs: [Program; 3],
     source: &Temp,
     output: impl Fn(usize) -> Result<Stdio, String>,
 ) -> Result<(), String> {
-    let mut times = [Vec::new(), Vec::new(), Vec::new()];
-    for run in 0..=RUNS {
-        for (which, program) in programs.into_iter().enumerate() {
-            let elapsed = time(program, source, output(which)?)?;
-            // The first run warms up.
-            if run > 0 {
-                times[which].push(elapsed);
-            }
-        }
-    }
-    let [listing, plain, tuned] = times.map(median);
+    let [listing, plain, tuned] = by_turns(RUNS, programs, source, output)?;
     println!(
         "{name:<10} {listing:>9.2} {plain:>9.2} {tuned:>9.2} {:>16.2} {:>16.2}",
         listing / plain,
@@ -91,8 +61,5 @@ pub fn table(listing: &Path, peer: &Path) -> Result<(), String> {
             return Err("the outputs differ".to_string());
         }
     }
-    row("/dev/null", programs, &source, |_| {
-        let null = OpenOptions::new().write(true).open("/dev/null");
-        Ok(null.map_err(|error| format!("/dev/null: {error}"))?.into())
-    })
+    row("/dev/null", programs, &source, |_| null())
 }

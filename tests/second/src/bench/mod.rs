@@ -5,6 +5,8 @@ mod calls;
 mod codec;
 mod figures;
 mod listing;
+mod programs;
+mod replay;
 mod tables;
 
 use std::path::Path;
@@ -28,6 +30,11 @@ fn close(done: Result<(), String>) -> ExitCode {
 /// The listing beside its peers.
 pub fn listing(listing: &Path, peer: &Path) -> ExitCode {
     close(listing::table(listing, peer))
+}
+
+/// The replay beside its peers.
+pub fn replay(replay: &Path, peer: &Path) -> ExitCode {
+    close(replay::table(replay, peer))
 }
 
 /// Each call of the archive beside its peer.

@@ -1,12 +1,22 @@
-//! The peers for the benchmark: the listing as one would write it by hand,
-//! `peer plain` digit by digit as usual, `peer tuned` for speed alone, from
-//! tables of whole numbers. Both meet the same checks as the listing and use
-//! the same words.
+//! The peers for the benchmark: the programs as one would write them by hand.
+//! Of the listing `peer plain`, digit by digit as usual, and `peer tuned`, for
+//! speed alone, from tables of whole numbers. Of the replay `peer replay`, which
+//! tests the whole table at each log record as the calls do, and
+//! `peer replay-trusting`, which doesn't. All meet the same checks as what they
+//! stand beside and use the same words.
+
+#[path = "../plain/log.rs"]
+mod log;
+#[path = "../plain/table.rs"]
+mod table;
 
 use std::fs::File;
 use std::io::{self, ErrorKind, Read, Write};
 use std::os::fd::AsFd;
 use std::process::ExitCode;
+
+use log::ENTRY;
+use table::State;
 
 const GROUP: usize = 9;
 const READ: usize = 32768;
@@ -23,7 +33,8 @@ const LONGEST_LINE: usize = 31;
 /// that the compiler knows of them.
 const LINE_ROOM: usize = 64;
 
-/// Room for the lines of all octets at hand.
+/// Room for the lines of all octets at hand, and more than enough for those of
+/// log records.
 const ROOM: usize = HELD / GROUP * LONGEST_LINE + LINE_ROOM;
 
 /// Text of at most seven octets, for one store of eight: the text first, its
@@ -231,21 +242,82 @@ fn put_tuned(lines: &mut Lines, at: usize, group: &[u8; GROUP]) -> usize {
     put(lines, at, ENDS[bo as usize][(o9 & 3) as usize])
 }
 
+/// A table and how far its log is replayed.
+struct Replay {
+    memory: Vec<u8>,
+    state: State,
+    /// Wide enough for logs of some 100,000,000,000 octets.
+    place: u32,
+    trusting: bool,
+}
+
+impl Replay {
+    fn open(trusting: bool) -> Replay {
+        let mut memory = vec![0; 2048 * table::RECORD];
+        let m1 = 4500;
+        table::open(&mut memory, m1).expect("both figures are right");
+        Replay {
+            memory,
+            state: State {
+                m1,
+                now: 0,
+                count: 0,
+            },
+            place: 0,
+            trusting,
+        }
+    }
+
+    /// Puts the line of a log record, whole or not, as the group's is put.
+    fn put(&mut self, lines: &mut Lines, at: usize, entry: &[u8]) -> usize {
+        self.place += 1;
+        let at = put_number(lines, at, self.place, b' ');
+        match log::step(&mut self.memory, self.state, entry, self.trusting) {
+            Ok(number) => {
+                self.go_on(entry, number);
+                lines[at..at + 3].copy_from_slice(b"ok ");
+                put_number(lines, at + 3, number, b'\n')
+            }
+            Err(refusal) => {
+                lines[at..at + 8].copy_from_slice(b"refused ");
+                put_number(lines, at + 8, refusal, b'\n')
+            }
+        }
+    }
+
+    /// Forms the next state from what an accepted log record reported.
+    fn go_on(&mut self, entry: &[u8], number: u32) {
+        match entry[0] {
+            1 => {
+                self.state.now = u32::from_le_bytes(entry[8..12].try_into().unwrap());
+                self.state.count -= number;
+            }
+            2 => self.state.count += 1,
+            4 => self.state.count -= number,
+            _ => {}
+        }
+    }
+}
+
 /// What went wrong, and on which stream.
 enum Failure {
     Input(io::Error),
     Output(io::Error),
 }
 
-fn list(
+/// Writes a header, and a line for each unit of so many octets, all those of a
+/// read at once. `put` puts a line at a place and returns the place after it;
+/// the last unit can be short.
+fn list<const UNIT: usize>(
+    header: &[u8],
     input: &mut File,
     output: &mut File,
-    put_group: impl Fn(&mut Lines, usize, &[u8; GROUP]) -> usize,
+    mut put: impl FnMut(&mut Lines, usize, &[u8]) -> usize,
 ) -> Result<(), Failure> {
-    let mut octets = [0; HELD];
+    let mut octets = vec![0; UNIT - 1 + READ];
     let mut kept = 0;
     let mut lines = Box::new([0; ROOM]);
-    output.write_all(HEADER).map_err(Failure::Output)?;
+    output.write_all(header).map_err(Failure::Output)?;
     loop {
         let read = match input.read(&mut octets[kept..kept + READ]) {
             Ok(0) => break,
@@ -259,19 +331,42 @@ fn list(
             }
         };
         let held = kept + read;
-        let mut groups = octets[..held].chunks_exact(GROUP);
+        let mut units = octets[..held].chunks_exact(UNIT);
         let mut end = 0;
-        for group in &mut groups {
-            end = put_group(&mut lines, end, group.try_into().unwrap());
+        for unit in &mut units {
+            end = put(&mut lines, end, unit);
         }
-        kept = groups.remainder().len();
+        kept = units.remainder().len();
         octets.copy_within(held - kept..held, 0);
         output.write_all(&lines[..end]).map_err(Failure::Output)?;
     }
     if kept > 0 {
-        output.write_all(b"refused 1\n").map_err(Failure::Output)?;
+        let end = put(&mut lines, 0, &octets[..kept]);
+        output.write_all(&lines[..end]).map_err(Failure::Output)?;
     }
     Ok(())
+}
+
+/// Lists groups, the short last one too.
+#[inline(always)]
+fn list_groups(
+    input: &mut File,
+    output: &mut File,
+    put: impl Fn(&mut Lines, usize, &[u8; GROUP]) -> usize,
+) -> Result<(), Failure> {
+    list::<GROUP>(HEADER, input, output, |lines, at, group| {
+        match group.try_into() {
+            Ok(group) => put(lines, at, group),
+            Err(_) => put_refusal(lines, at, 1),
+        }
+    })
+}
+
+fn replay(input: &mut File, output: &mut File, trusting: bool) -> Result<(), Failure> {
+    let mut replay = Replay::open(trusting);
+    list::<ENTRY>(b"", input, output, |lines, at, entry| {
+        replay.put(lines, at, entry)
+    })
 }
 
 /// A stream without the standard library's buffer and its forgiveness of bad
@@ -281,21 +376,26 @@ fn raw(stream: impl AsFd) -> io::Result<File> {
 }
 
 fn main() -> ExitCode {
-    let tuned = std::env::args().nth(1).as_deref() == Some("tuned");
+    let word = std::env::args().nth(1).unwrap_or_default();
     let done = raw(io::stdin())
         .map_err(Failure::Input)
         .and_then(|mut input| {
             let mut output = raw(io::stdout()).map_err(Failure::Output)?;
-            if tuned {
-                list(&mut input, &mut output, put_tuned)
-            } else {
-                list(&mut input, &mut output, put_plain)
+            match &word[..] {
+                "replay" => replay(&mut input, &mut output, false),
+                "replay-trusting" => replay(&mut input, &mut output, true),
+                "tuned" => list_groups(&mut input, &mut output, put_tuned),
+                _ => list_groups(&mut input, &mut output, put_plain),
             }
         });
+    let name = match &word[..] {
+        "replay" | "replay-trusting" => "replay",
+        _ => "listing",
+    };
     match done {
         Ok(()) => return ExitCode::SUCCESS,
-        Err(Failure::Input(error)) => eprintln!("listing: standard input: {error}"),
-        Err(Failure::Output(error)) => eprintln!("listing: standard output: {error}"),
+        Err(Failure::Input(error)) => eprintln!("{name}: standard input: {error}"),
+        Err(Failure::Output(error)) => eprintln!("{name}: standard output: {error}"),
     }
     ExitCode::FAILURE
 }

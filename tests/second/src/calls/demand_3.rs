@@ -5,12 +5,13 @@ use super::near::{self, once_in};
 use super::pair::{Channel, Pair};
 use crate::archive::Lent;
 use crate::draw::Draw;
+use crate::logs;
 use crate::paper::search::Wish;
 use crate::paper::table::{Measure, Reservation, State, RECORD};
 use crate::paper::{Answer, LATEST, STATIONS};
 use crate::report::Verdict;
 
-#[derive(Clone, Copy)]
+#[derive(Clone)]
 enum Step {
     Clock(u32),
     Reserve(Reservation),
@@ -19,6 +20,8 @@ enum Step {
     SlotState(u32),
     Search(Wish),
     RecordAt(u32),
+    /// The step of a log record.
+    Log(Vec<u8>),
 }
 
 impl Step {
@@ -28,6 +31,14 @@ impl Step {
             Step::Distance(told) => Some(told.station),
             Step::Wipe(station) => Some(*station),
             Step::Clock(_) | Step::SlotState(_) | Step::Search(_) | Step::RecordAt(_) => None,
+            Step::Log(entry) => logs::station(entry),
+        }
+    }
+
+    fn is_reserve(&self) -> bool {
+        match self {
+            Step::Log(entry) => entry[0] == 2,
+            step => matches!(step, Step::Reserve(_)),
         }
     }
 }
@@ -71,21 +82,22 @@ fn play(
     };
     for step in steps {
         let channel = &mut end.channel;
-        let answer = match step {
-            Step::Clock(slot) => pair.clock(channel, slot)?,
-            Step::Reserve(asked) => pair.reserve(channel, &asked)?,
-            Step::Distance(told) => pair.distance(channel, &told)?,
-            Step::Wipe(station) => pair.wipe(channel, station)?,
-            Step::SlotState(slot) => pair.slot_state(channel, slot)?,
-            Step::Search(wish) => pair.search(channel, &wish, &mut Lent::holding(&[0xA5; 64]))?,
-            Step::RecordAt(i) => pair.record_at(channel, i)?.map(|_| 0),
+        let answer = match &step {
+            Step::Clock(slot) => pair.clock(channel, *slot)?,
+            Step::Reserve(asked) => pair.reserve(channel, asked)?,
+            Step::Distance(told) => pair.distance(channel, told)?,
+            Step::Wipe(station) => pair.wipe(channel, *station)?,
+            Step::SlotState(slot) => pair.slot_state(channel, *slot)?,
+            Step::Search(wish) => pair.search(channel, wish, &mut Lent::holding(&[0xA5; 64]))?,
+            Step::RecordAt(i) => pair.record_at(channel, *i)?.map(|_| 0),
+            Step::Log(entry) => pair.step(channel, entry)?,
         };
         let of_a = step.station() == Some(a);
         if step.station().is_some() && !of_a {
             end.answers.push(answer);
             end.others_lacked_room |= answer == Err(17);
         }
-        end.held += u32::from(of_a && answer == Ok(0) && matches!(step, Step::Reserve(_)));
+        end.held += u32::from(of_a && answer == Ok(0) && step.is_reserve());
     }
     Ok(end)
 }
@@ -98,11 +110,15 @@ fn both(
     steps: &[Step],
     a: u32,
 ) -> Result<(End, End), String> {
-    let with = steps.iter().copied().chain([Step::Wipe(a)]);
+    let wipe = match steps.first() {
+        Some(Step::Log(_)) => Step::Log(logs::wipe(a).octets()),
+        _ => Step::Wipe(a),
+    };
+    let with = steps.iter().cloned().chain([wipe]);
     let without = steps
         .iter()
-        .copied()
-        .filter(|step| step.station() != Some(a));
+        .filter(|step| step.station() != Some(a))
+        .cloned();
     Ok((
         play(pair, capacity, m1, with, a)?,
         play(pair, capacity, m1, without, a)?,
@@ -171,17 +187,22 @@ fn sequence(draw: &mut Draw, a: u32, m1: u32) -> Vec<Step> {
     steps
 }
 
-pub fn check(pair: &mut Pair) -> Verdict {
-    let mut draw = Draw::from_seed(701);
+/// Sequences as they are made for A and M1.
+fn compare(
+    pair: &mut Pair,
+    draw: &mut Draw,
+    rounds: usize,
+    made: impl Fn(&mut Draw, u32, u32) -> Vec<Step>,
+) -> Verdict {
     let (mut within, mut without, mut outside, mut held) = (0, 0, 0, 0_u64);
-    for _ in 0..10_000 {
+    for _ in 0..rounds {
         let a = match draw.below(8) {
             0 => draw.one_of(&[STATIONS, STATIONS + 1, u32::MAX]),
-            _ => near::station(&mut draw),
+            _ => near::station(draw),
         };
-        let m1 = near::m1(&mut draw);
+        let m1 = near::m1(draw);
         let capacity = draw.one_of(&[2, 8, 40, 40, 64]);
-        let steps = sequence(&mut draw, a, m1);
+        let steps = made(draw, a, m1);
         let (with_a, without_a) = both(pair, capacity, m1, &steps, a)?;
         if with_a.others_lacked_room {
             outside += 1;
@@ -209,6 +230,34 @@ pub fn check(pair: &mut Pair) -> Verdict {
         "{within} sequences, {held} accepted reserves of A, {without} with A no address: same; \
          {outside} more in which another station lacked room"
     ))
+}
+
+pub fn check(pair: &mut Pair) -> Verdict {
+    compare(pair, &mut Draw::from_seed(701), 10_000, sequence)
+}
+
+/// The same calls as log records, but those that no log has; some are damaged.
+fn logged(draw: &mut Draw, a: u32, m1: u32) -> Vec<Step> {
+    let mut log = Vec::new();
+    for step in sequence(draw, a, m1) {
+        let (miles, limit) = logs::whole_miles(draw);
+        let entry = match step {
+            Step::Clock(slot) => logs::clock(slot),
+            Step::Reserve(asked) => logs::reserve_as(&asked, miles, limit),
+            Step::Distance(told) => logs::distance(told.station, miles, limit),
+            Step::Wipe(station) => logs::wipe(station),
+            _ => continue,
+        };
+        log.push(Step::Log(match draw.below(12) {
+            0 => logs::damaged(draw, &entry),
+            _ => entry.octets(),
+        }));
+    }
+    log
+}
+
+pub fn over_logs(pair: &mut Pair) -> Verdict {
+    compare(pair, &mut Draw::from_seed(703), 6_000, logged)
 }
 
 /// Where another station lacked room the two can differ: by hand, and at

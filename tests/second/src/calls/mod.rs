@@ -7,9 +7,10 @@ mod distances;
 mod edges;
 mod histories;
 mod marked;
-mod near;
+pub mod near;
 mod order;
 mod pair;
+mod replay;
 mod searches;
 mod soundness;
 mod tallies;
@@ -54,6 +55,15 @@ pub fn check(report: &mut Report) {
     add("demand 3", demand_3::check);
     add("demand 3's premise", demand_3::premise);
     add("the walk", walks::check);
+    add("log records by hand", replay::by_hand);
+    add("each octet of a log record", replay::every_octet);
+    add("operations of a log record", replay::operations);
+    add("lengths of a log record", replay::lengths);
+    add("whole miles", replay::whole_miles);
+    add("steps on damaged tables", replay::damaged);
+    add("log records at random", replay::random);
+    add("steps beside calls by hand", replay::twins);
+    add("demand 3 over logs", demand_3::over_logs);
     add("the tally", tallies::check);
     for (call, name, _) in Call::ALL {
         let verdict = often(&pair, &Counts::default(), call, OFTEN);
@@ -66,10 +76,16 @@ pub fn check(report: &mut Report) {
 /// up too seldom.
 fn often(pair: &Pair, since: &Counts, call: Call, least: u64) -> Verdict {
     let counts = pair.counts.since(since);
-    let mut seen = vec![format!("accepted × {}", counts.of(call, 0))];
-    let refusals = call.order().iter();
-    seen.extend(refusals.map(|&refusal| format!("{refusal} × {}", counts.of(call, refusal))));
-    let mut answers = std::iter::once(&0).chain(call.order());
+    let accepted = call.accepts().then_some(&0);
+    let mut answers = accepted.into_iter().chain(call.order());
+    let name = |answer| match answer {
+        0 => "accepted".to_string(),
+        refusal => refusal.to_string(),
+    };
+    let seen: Vec<String> = answers
+        .clone()
+        .map(|&answer| format!("{} × {}", name(answer), counts.of(call, answer)))
+        .collect();
     match answers.find(|&&answer| counts.of(call, answer) < least) {
         None => Ok(seen.join(", ")),
         Some(answer) => Err(format!(

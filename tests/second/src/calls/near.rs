@@ -154,7 +154,7 @@ pub fn spoil_measure(draw: &mut Draw, told: &mut Measure, state: State) {
 }
 
 /// Some record that is held.
-fn held(draw: &mut Draw, table: &Table) -> Option<Record> {
+pub fn held(draw: &mut Draw, table: &Table) -> Option<Record> {
     let count = table.records.len() as u32;
     (count > 0).then(|| table.records[draw.below(count) as usize])
 }
@@ -200,9 +200,13 @@ pub fn slot(draw: &mut Draw, channel: &Channel) -> u32 {
 /// A slot to put the clock to: mostly a little later, often at the edge of
 /// some record's life.
 pub fn clock(draw: &mut Draw, channel: &Channel) -> u32 {
-    let state = channel.state;
-    let table = Table::held(channel.memory.octets(), state).ok();
-    let record = table.as_ref().and_then(|table| held(draw, table));
+    let table = Table::held(channel.memory.octets(), channel.state).ok();
+    clock_of(draw, channel.state, table.as_ref())
+}
+
+/// The same, of a state and the table, where it is one.
+pub fn clock_of(draw: &mut Draw, state: State, table: Option<&Table>) -> u32 {
+    let record = table.and_then(|table| held(draw, table));
     match (record, draw.below(16)) {
         (_, 0) => number(draw, state),
         (_, 1) => state.now.wrapping_add(draw.below(3 * state.m1.max(1))),

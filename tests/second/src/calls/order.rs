@@ -9,8 +9,10 @@ use super::pair::{Call, Channel, Pair};
 use crate::archive::Lent;
 use crate::draw::Draw;
 use crate::groups;
+use crate::logs;
 use crate::paper::codec::{Destination, TABLE_1_33};
 use crate::paper::distance::UNKNOWN;
+use crate::paper::log::{Entry, ENTRY, UNKNOWN_MILES};
 use crate::paper::search::Wish;
 use crate::paper::table::{Measure, Record, Reservation, State, RECORD};
 use crate::paper::{Answer, LATEST, STATIONS};
@@ -38,9 +40,9 @@ fn apart(call: Call) -> &'static [(u32, u32)] {
         // Without a row there is no figure that doesn't fit it.
         Call::Parameter => &[(22, 10)],
         // Behind now and above the limit: such a now isn't sound.
-        Call::Clock | Call::SlotState => &[(12, 13)],
+        Call::Clock | Call::SlotState | Call::StepClock => &[(12, 13)],
         // No sound table holds what the first four refuse.
-        Call::Reserve => &[(8, 16), (14, 16), (15, 16), (9, 16)],
+        Call::Reserve | Call::StepReserve => &[(8, 16), (14, 16), (15, 16), (9, 16)],
         _ => &[],
     }
 }
@@ -94,7 +96,8 @@ fn station(draw: &mut Draw, earned: &Earned) -> u32 {
     }
 }
 
-fn reserve(pair: &mut Pair, draw: &mut Draw, earned: &Earned) -> Result<Answer, String> {
+/// What a reserve asks for, and a table for it.
+fn reserve(draw: &mut Draw, earned: &Earned) -> (Channel, Reservation) {
     let mut asked = Reservation {
         station: station(draw, earned),
         rate: 3,
@@ -131,7 +134,7 @@ fn reserve(pair: &mut Pair, draw: &mut Draw, earned: &Earned) -> Result<Answer, 
         });
     }
     let room = if earned.has(17) { 0 } else { 2 };
-    pair.reserve(&mut table(draw, records, room, earned), &asked)
+    (table(draw, records, room, earned), asked)
 }
 
 /// A slot for clock and slot state, and a table for it.
@@ -289,6 +292,62 @@ fn open(pair: &mut Pair, draw: &mut Draw, earned: &Earned) -> Result<Answer, Str
     pair.open(&mut Channel::holding(&vec![0xEE; octets], STATE), m1)
 }
 
+/// A log record with the limit that 18 asks for, and where 23 is to be earned
+/// of another length or without one of its closing zeros.
+fn step(
+    pair: &mut Pair,
+    draw: &mut Draw,
+    earned: &Earned,
+    mut channel: Channel,
+    mut entry: Entry,
+) -> Result<Answer, String> {
+    if matches!(entry.operation, 2 | 3) {
+        entry.limit = draw.one_of(if earned.has(18) {
+            &[4_097, u32::MAX]
+        } else {
+            &[0, 150, 4_096]
+        });
+    }
+    let mut octets = entry.octets();
+    if earned.has(23) && (1..=4).contains(&entry.operation) {
+        match draw.below(3) {
+            0 => octets.truncate(1 + draw.below(ENTRY as u32 - 1) as usize),
+            1 => octets.resize(ENTRY + 1 + draw.below(40) as usize, 0),
+            _ => octets[20 + draw.below(4) as usize] = 1 + draw.below(255) as u8,
+        }
+    }
+    pair.step(&mut channel, &octets)
+}
+
+fn step_clock(pair: &mut Pair, draw: &mut Draw, earned: &Earned) -> Result<Answer, String> {
+    let (channel, slot) = slot(draw, earned);
+    step(pair, draw, earned, channel, logs::clock(slot))
+}
+
+/// What is cut to an octet lies outside its range even so.
+fn step_reserve(pair: &mut Pair, draw: &mut Draw, earned: &Earned) -> Result<Answer, String> {
+    let (channel, asked) = reserve(draw, earned);
+    let entry = logs::reserve_as(&asked, UNKNOWN_MILES, 0);
+    step(pair, draw, earned, channel, entry)
+}
+
+/// A step that names a station; that of a number without an operation too.
+fn step_station(
+    pair: &mut Pair,
+    draw: &mut Draw,
+    earned: &Earned,
+    operation: u8,
+) -> Result<Answer, String> {
+    let entry = Entry {
+        operation,
+        station: station(draw, earned),
+        distance: if operation == 3 { UNKNOWN_MILES } else { 0 },
+        ..Entry::default()
+    };
+    let channel = table(draw, vec![HELD], 1, earned);
+    step(pair, draw, earned, channel, entry)
+}
+
 /// The call with an input that earns just these refusals.
 fn earn(pair: &mut Pair, call: Call, draw: &mut Draw, earned: &Earned) -> Result<Answer, String> {
     match call {
@@ -301,7 +360,10 @@ fn earn(pair: &mut Pair, call: Call, draw: &mut Draw, earned: &Earned) -> Result
             let (mut channel, slot) = slot(draw, earned);
             pair.clock(&mut channel, slot)
         }
-        Call::Reserve => reserve(pair, draw, earned),
+        Call::Reserve => {
+            let (mut channel, asked) = reserve(draw, earned);
+            pair.reserve(&mut channel, &asked)
+        }
         Call::Distance => {
             let told = Measure {
                 station: station(draw, earned),
@@ -331,6 +393,14 @@ fn earn(pair: &mut Pair, call: Call, draw: &mut Draw, earned: &Earned) -> Result
             let mut channel = table(draw, vec![HELD], 1, earned);
             Ok(pair.record_at(&mut channel, draw.below(3))?.map(|_| 0))
         }
+        Call::StepClock => step_clock(pair, draw, earned),
+        Call::StepReserve => step_reserve(pair, draw, earned),
+        Call::StepDistance => step_station(pair, draw, earned, 3),
+        Call::StepWipe => step_station(pair, draw, earned, 4),
+        Call::StepOther => {
+            let operation = draw.one_of(&[0, 5, 6, 128, 255]);
+            step_station(pair, draw, earned, operation)
+        }
     }
 }
 
@@ -345,7 +415,8 @@ fn together(call: Call, earned: &Earned) -> bool {
     // neither does.
     let one_in_range = earned.has(4) != earned.has(5);
     let unequal = call == Call::Write && earned.has(8) && earned.has(34) && one_in_range;
-    (!apart || unsound_now) && !unequal
+    let none = earned.0.is_empty() && !call.accepts();
+    (!apart || unsound_now) && !unequal && !none
 }
 
 /// All sets of a call's refusals, the empty one too.

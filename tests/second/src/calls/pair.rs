@@ -7,11 +7,13 @@ use std::fmt::Debug;
 use crate::archive::{self, Lent, LentTally};
 use crate::gemthatch::Block;
 use crate::paper::codec::{self, Destination, Fields, GROUP};
+use crate::paper::log;
 use crate::paper::search::{self, Wish};
 use crate::paper::slots;
 use crate::paper::table::{self, After, Measure, Reservation, State, RECORD};
 use crate::paper::walk::{self, Handed};
 use crate::paper::{over_c, Answer};
+use crate::report::hex;
 
 #[derive(Clone, Copy, Debug, PartialEq, Eq)]
 pub enum Call {
@@ -28,11 +30,17 @@ pub enum Call {
     Search,
     Pick,
     RecordAt,
+    StepClock,
+    StepReserve,
+    StepDistance,
+    StepWipe,
+    StepOther,
 }
 
 impl Call {
-    /// Each call, its name, and its refusals in the order of the paper.
-    pub const ALL: [(Call, &'static str, &'static [u32]); 13] = [
+    /// Each call, its name, and its refusals in the order of the paper. The
+    /// step of a replay is a call of its own for each operation.
+    pub const ALL: [(Call, &'static str, &'static [u32]); 18] = [
         (Call::Read, "read", &[1, 2, 3, 4, 5, 6]),
         (Call::Write, "write", &[8, 9, 3, 4, 5, 6, 34]),
         (Call::Rate, "rate", &[7, 3]),
@@ -46,6 +54,15 @@ impl Call {
         (Call::Search, "search", &[11, 19, 9, 20, 1, 21]),
         (Call::Pick, "pick", &[20]),
         (Call::RecordAt, "record at", &[11]),
+        (Call::StepClock, "step of a clock", &[23, 11, 12, 13]),
+        (
+            Call::StepReserve,
+            "step of a reserve",
+            &[23, 11, 8, 14, 15, 9, 5, 18, 16, 17],
+        ),
+        (Call::StepDistance, "step of a distance", &[23, 11, 8, 18]),
+        (Call::StepWipe, "step of a wipe", &[23, 11, 8]),
+        (Call::StepOther, "step of no operation", &[23]),
     ];
 
     pub fn name(self) -> &'static str {
@@ -54,6 +71,22 @@ impl Call {
 
     pub fn order(self) -> &'static [u32] {
         Call::ALL[self as usize].2
+    }
+
+    /// Whether it accepts some input.
+    pub fn accepts(self) -> bool {
+        self != Call::StepOther
+    }
+
+    /// The step of a log record, by its operation, whatever else it holds.
+    fn step_of(entry: &[u8]) -> Call {
+        match entry.first() {
+            Some(1) => Call::StepClock,
+            Some(2) => Call::StepReserve,
+            Some(3) => Call::StepDistance,
+            Some(4) => Call::StepWipe,
+            _ => Call::StepOther,
+        }
     }
 }
 
@@ -128,11 +161,6 @@ pub struct Pair {
     pub tally: LentTally,
 }
 
-fn hex(octets: &[u8]) -> String {
-    let octets: Vec<String> = octets.iter().map(|octet| format!("{octet:02X}")).collect();
-    octets.join(" ")
-}
-
 /// Octets in a message: all of a few, else their number and the first.
 fn shown(octets: &[u8]) -> String {
     const FEW: usize = 20 * RECORD;
@@ -169,6 +197,12 @@ fn same<T: PartialEq + Debug>(what: &str, expected: T, given: T) -> Result<(), S
     } else {
         Err(format!("{what}: expected {expected:?}, given {given:?}"))
     }
+}
+
+/// The slot of a log record, or what there is of it.
+fn slot_of(entry: &[u8]) -> u32 {
+    let octets = entry.iter().skip(8).take(4).rev();
+    octets.fold(0, |slot, &octet| slot << 8 | u32::from(octet))
 }
 
 /// The next state as a C host forms it from the number returned.
@@ -340,6 +374,35 @@ impl Pair {
                 ..state
             },
             || format!("station {station}"),
+        )
+    }
+
+    /// The answer alone doesn't form the next state: that takes the log
+    /// record's operation, and of a clock the slot.
+    pub fn step(&mut self, channel: &mut Channel, entry: &[u8]) -> Compared {
+        let call = Call::step_of(entry);
+        self.changing(
+            call,
+            channel,
+            |memory, state| log::step(memory, state, entry),
+            |memory, state| archive::replay_step(memory, state, entry),
+            |state, number| match call {
+                Call::StepClock => State {
+                    now: slot_of(entry),
+                    count: state.count.wrapping_sub(number),
+                    ..state
+                },
+                Call::StepReserve => State {
+                    count: state.count.wrapping_add(1),
+                    ..state
+                },
+                Call::StepWipe => State {
+                    count: state.count.wrapping_sub(number),
+                    ..state
+                },
+                _ => state,
+            },
+            || format!("log record {}", hex(entry)),
         )
     }
 

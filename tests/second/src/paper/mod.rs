@@ -3,6 +3,7 @@
 
 pub mod codec;
 pub mod distance;
+pub mod log;
 pub mod search;
 pub mod slots;
 pub mod table;

@@ -141,6 +141,87 @@ impl Table {
     }
 }
 
+/// The calls on a table that is sound, and stays so. One that is refused
+/// changes nothing.
+impl Table {
+    /// Refusals in the order 12, 13.
+    pub fn clock(&mut self, slot: u32) -> Answer {
+        if slot < self.now {
+            return Err(12);
+        }
+        if slot > LATEST {
+            return Err(13);
+        }
+        self.now = slot;
+        let m1 = self.m1;
+        Ok(self.keep(|record| record.last_slot(m1) >= u64::from(slot)))
+    }
+
+    /// Refusals in the order 8, 14, 15, 9, 5, 18, 16, 17.
+    pub fn reserve(&mut self, asked: &Reservation) -> Answer {
+        if asked.station >= STATIONS {
+            return Err(8);
+        }
+        if asked.rate == 0 || asked.rate > 60 {
+            return Err(14);
+        }
+        if asked.superframes == 0 {
+            return Err(15);
+        }
+        if asked.superframes > 3 || asked.length == 0 || asked.length > 32 {
+            return Err(9);
+        }
+        if asked.bs < 2 || asked.bs > 255 {
+            return Err(5);
+        }
+        if distance::limit_refused(asked.limit) {
+            return Err(18);
+        }
+        let record = Record {
+            station: asked.station,
+            first: self.now + asked.bs,
+            rate: asked.rate as u8,
+            superframes: asked.superframes as u8,
+            length: asked.length as u8,
+            far: distance::far(asked.distance, asked.limit).into(),
+        };
+        if self.records.iter().any(|held| held.same_as(&record)) {
+            return Err(16);
+        }
+        if self.records.len() == self.capacity {
+            return Err(17);
+        }
+        self.records.push(record);
+        Ok(0)
+    }
+
+    /// Refusals in the order 8, 18.
+    pub fn distance(&mut self, told: &Measure) -> Answer {
+        if told.station >= STATIONS {
+            return Err(8);
+        }
+        if distance::limit_refused(told.limit) {
+            return Err(18);
+        }
+        let mut held = 0;
+        for record in &mut self.records {
+            if record.station == told.station {
+                record.far = distance::far(told.distance, told.limit).into();
+                held += 1;
+            }
+        }
+        Ok(held)
+    }
+
+    /// Refusal 8 alone.
+    pub fn wipe(&mut self, station: u32) -> Answer {
+        if station >= STATIONS {
+            return Err(8);
+        }
+        Ok(self.keep(|record| record.station != station))
+    }
+}
+
 /// What a call leaves.
 #[derive(Debug)]
 pub struct After {
@@ -151,7 +232,7 @@ pub struct After {
 
 /// Makes a change in a table. One that isn't sound, or a change that is
 /// refused, leaves memory and state as they were.
-fn change(memory: &[u8], state: State, change: impl FnOnce(&mut Table) -> Answer) -> After {
+pub fn change(memory: &[u8], state: State, change: impl FnOnce(&mut Table) -> Answer) -> After {
     let changed = Table::held(memory, state).and_then(|mut table| {
         let number = change(&mut table)?;
         Ok((number, table))
@@ -199,17 +280,7 @@ pub fn open(memory: &[u8], m1: u32) -> After {
 
 /// Refusals in the order 11, 12, 13.
 pub fn clock(memory: &[u8], state: State, slot: u32) -> After {
-    change(memory, state, |table| {
-        if slot < table.now {
-            return Err(12);
-        }
-        if slot > LATEST {
-            return Err(13);
-        }
-        table.now = slot;
-        let m1 = table.m1;
-        Ok(table.keep(|record| record.last_slot(m1) >= u64::from(slot)))
-    })
+    change(memory, state, |table| table.clock(slot))
 }
 
 /// What a reserve asks for.
@@ -226,42 +297,7 @@ pub struct Reservation {
 
 /// Refusals in the order 11, 8, 14, 15, 9, 5, 18, 16, 17.
 pub fn reserve(memory: &[u8], state: State, asked: &Reservation) -> After {
-    change(memory, state, |table| {
-        if asked.station >= STATIONS {
-            return Err(8);
-        }
-        if asked.rate == 0 || asked.rate > 60 {
-            return Err(14);
-        }
-        if asked.superframes == 0 {
-            return Err(15);
-        }
-        if asked.superframes > 3 || asked.length == 0 || asked.length > 32 {
-            return Err(9);
-        }
-        if asked.bs < 2 || asked.bs > 255 {
-            return Err(5);
-        }
-        if distance::limit_refused(asked.limit) {
-            return Err(18);
-        }
-        let record = Record {
-            station: asked.station,
-            first: table.now + asked.bs,
-            rate: asked.rate as u8,
-            superframes: asked.superframes as u8,
-            length: asked.length as u8,
-            far: distance::far(asked.distance, asked.limit).into(),
-        };
-        if table.records.iter().any(|held| held.same_as(&record)) {
-            return Err(16);
-        }
-        if table.records.len() == table.capacity {
-            return Err(17);
-        }
-        table.records.push(record);
-        Ok(0)
-    })
+    change(memory, state, |table| table.reserve(asked))
 }
 
 /// What a distance call tells of a station.
@@ -274,30 +310,10 @@ pub struct Measure {
 
 /// Refusals in the order 11, 8, 18.
 pub fn distance(memory: &[u8], state: State, told: &Measure) -> After {
-    change(memory, state, |table| {
-        if told.station >= STATIONS {
-            return Err(8);
-        }
-        if distance::limit_refused(told.limit) {
-            return Err(18);
-        }
-        let mut held = 0;
-        for record in &mut table.records {
-            if record.station == told.station {
-                record.far = distance::far(told.distance, told.limit).into();
-                held += 1;
-            }
-        }
-        Ok(held)
-    })
+    change(memory, state, |table| table.distance(told))
 }
 
 /// Refusals in the order 11, 8.
 pub fn wipe(memory: &[u8], state: State, station: u32) -> After {
-    change(memory, state, |table| {
-        if station >= STATIONS {
-            return Err(8);
-        }
-        Ok(table.keep(|record| record.station != station))
-    })
+    change(memory, state, |table| table.wipe(station))
 }
