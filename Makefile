@@ -1,19 +1,20 @@
-# make demo    a C host's day, with its tables and its tally, and the listing of the sample bursts
+# make demo    a C host's day, with its tables and its tally, the listing of the sample bursts, and the sample day replayed
 # make test    everything that must hold, as .ci/run runs it; its last line is 'N passed, M failed'
-# make bench   the calls beside a plain Rust implementation, and the listing beside a plain and a tuned program
+# make bench   the calls beside a plain Rust implementation, the listing and the replay beside two programs each
 # make second  builds the second program of tests/second, which test and bench use
 # make clean   removes all that was built
 
 archive := target/staticlib/libgemthatch.a
 second := target/bin/second
 peer := target/bin/peer
+programs := target/bin/listing target/bin/replay target/bin/moment
 proved := crates.txt $(shell find crates -type f)
 
 SHELL := /bin/bash
 
 .PHONY: demo test bench clean second
 
-demo: target/host target/bin/listing
+demo: target/host $(programs)
 	@echo 'target/host (examples/host.c)'
 	@target/host
 	@echo
@@ -22,14 +23,28 @@ demo: target/host target/bin/listing
 	@echo
 	@echo 'target/bin/listing < samples/bursts'
 	@target/bin/listing < samples/bursts
+	@echo
+	@echo 'samples/day, 24 octets to a log record, made by examples/to-log from samples/day.txt:'
+	@od -An -v -w24 -tx1 samples/day
+	@echo
+	@echo 'target/bin/replay < samples/day'
+	@target/bin/replay < samples/day
+	@echo
+	@echo 'target/bin/moment < samples/day'
+	@target/bin/moment < samples/day
+	@echo
+	@echo 'head -c 240 samples/day | target/bin/moment, the moment after ten log records'
+	@head -c 240 samples/day | target/bin/moment
 
 test:
 	@tests/run
 
-bench: target/bin/listing second
+bench: $(programs) second
 	@$(second) bench-calls
 	@echo
 	@$(second) bench-listing target/bin/listing $(peer)
+	@echo
+	@$(second) bench-replay target/bin/replay $(peer)
 
 second: $(archive)
 	@. tests/x86-64 && cargo build --quiet --release --offline --manifest-path tests/second/Cargo.toml --target-dir target/second && \
@@ -45,11 +60,11 @@ $(archive): $(proved)
 	@rt staticlib gemthatch > target/archive.log 2>&1 || { cat target/archive.log; exit 1; }
 	@touch $@
 
-target/bin/listing: $(proved)
-	@echo 'proving and building the listing ..'
+$(programs) &: $(proved)
+	@echo 'proving and building the programs ..'
 	@mkdir -p target
-	@rt check listing > target/check.log 2>&1 || { cat target/check.log; exit 1; }
-	@touch $@
+	@rt check listing replay moment > target/check.log 2>&1 || { cat target/check.log; exit 1; }
+	@touch $(programs)
 
 clean:
 	rm -rf target
