@@ -104,13 +104,14 @@ static void put_number(uint8_t *octets, uint32_t number)
 static void log_call(const gemthatch_channel *channel, uint32_t operation, uint32_t rate, uint32_t superframes, uint32_t length,
                      uint32_t station, uint32_t slot, uint32_t miles, uint32_t limit_miles)
 {
-    uint8_t *entry = entries[logged];
+    uint8_t *entry;
     if (channel != recorded)
         return;
-    if (logged + 1u == sizeof entries / sizeof entries[0]) {
+    if (logged == sizeof entries / sizeof entries[0]) {
         expect(0, "the log has room for the day");
         return;
     }
+    entry = entries[logged];
     entry[0] = (uint8_t)operation;
     entry[1] = (uint8_t)rate;
     entry[2] = (uint8_t)superframes;

@@ -8,8 +8,8 @@
  * WHAT IT DOES
  * A superframe block reservation is nine octets of a burst: read and write them. A channel's reservations stand in a table of records in
  * memory that you lend. A slot is free, reusable or taken, as the stored reservations say. A search lists where a block of slots may be
- * placed, and a pick chooses one. A station that leaves is wiped without trace. A channel's log is replayed record by record. A walk hands
- * out a table's records one by one, and a tally counts accepted and refused calls.
+ * placed, and a pick chooses one. A station that leaves is wiped without trace. A channel's log is replayed, one log record after the other.
+ * A walk hands out a table's records one by one, and a tally counts accepted and refused calls.
  *
  * WHAT EVERY CALL PROMISES
  * Every call takes any numbers and any octets, and ends. Bad input gets a numbered refusal, the first that applies in the order given with
@@ -289,7 +289,7 @@ enum gemthatch_operation {
     GEMTHATCH_OPERATION_WIPE = 4      /* station */
 };
 
-/* The distance of a log record that is unknown. Any other is a range. */
+/* What an unknown distance is in a log record. Any other number is a range. */
 #define GEMTHATCH_ENTRY_UNKNOWN 4294967295u
 
 /*

@@ -1,7 +1,7 @@
--- The lines of a table's records, one after the other. Assumes nothing.
+-- The lines of a table: those of its records, and its own before them. Assumes nothing.
 use Prim.Native.Nat.{ℕ, _+_, _*_, _/_, _≤_, _<_}
 use mathlib.Core.Path.{_≡_}
-use mathlib.Core.List.{List, [], _∷_, _++_, map, map-append}
+use mathlib.Core.List.{List, [], map-append}
 use native.Mathlib.Numerals.{add-one}
 use native.Mathlib.Omega.{arith}
 use lib.ListN.{length as len, getD, take}
@@ -16,10 +16,12 @@ use Rattle.lines.specs.declared.Line.{Line}
 use Rattle.lines.specs.Day.{stateLine, recordLine, lineRoom, lineOf}
 use Rattle.lines.specs.Steps.{Wrote}
 use Rattle.lines.proofs.Wrote.{and-then, start-wiped}
-use Rattle.day.specs.Day.{joined, momentIn}
+use Rattle.day.specs.Day.{momentIn}
 use Rattle.day.specs.Steps.{Shown}
 use Rattle.day.proofs.Sequences.{joined-next}
 use Rattle.day.proofs.Replays.{line-wrote}
+
+-- ---- the records, one after the other
 
 -- one more
 pub shown-next : {rs : List Rec} {t u v : List ℕ} {at i end next : ℕ} {line : Line}

@@ -8,8 +8,8 @@ use lib.Seq.{length-take-le, getD-take, getD-at}
 use borrow.Author.Tests.{ne-eqb}
 use Rattle.sound.specs.Sound.{Channel}
 use Rattle.trace.specs.Machine.{transcript}
-use Rattle.log.specs.declared.Entry.the-variants.{NoCall}
-use Rattle.log.specs.Entries.{entryOf, entrySays, entryLeaves}
+use Rattle.log.specs.declared.LoggedCall.the-variants.{NoCall}
+use Rattle.log.specs.Entries.{callIn, entrySays, entryLeaves}
 use Rattle.day.specs.Day.{entryAt, entryCount, entries, onLog, replayed, logLines}
 use Rattle.day.specs.Steps.{tableAfter, linesTo, answerLine}
 use Rattle.day.specs.Claims.{LineForEach, IncompleteLast, InPieces, CutAfter}
@@ -63,13 +63,13 @@ line-for-each place m s = (
 )
 
 -- an incomplete log record asks for no call
-entryOf-incomplete : (o : List ℕ) → len o < 24 → entryOf o ≡ NoCall
-unfolding entryOf
-entryOf-incomplete o h = rw (ne-eqb (len o) 24 (omega arith))
+callIn-incomplete : (o : List ℕ) → len o < 24 → callIn o ≡ NoCall
+unfolding callIn
+callIn-incomplete o h = rw (ne-eqb (len o) 24 (omega arith))
 
 pub incomplete-last : IncompleteLast
 incomplete-last place m s t w l h =
-    let u = no-call-says (replayed m s) t (rw (entryOf-incomplete t h)) in
+    let u = no-call-says (replayed m s) t (callIn-incomplete t h) in
     let e : entries (s ++ t) ≡ entries s ++ (t ∷ []) = rw (entries-append s t w, entries-one t l (omega arith)) in (
       rw (e, runs-next, u .0),
       rw (e, transcript-next, linesFrom-next, u .1, length-transcript, length-entries),

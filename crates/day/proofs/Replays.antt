@@ -14,14 +14,14 @@ use Rattle.octets.proofs.Refusals.{by-test}
 use Rattle.sound.specs.Sound.{Channel}
 use Rattle.table.specs.declared.Answer.{Answer}
 use Rattle.table.specs.Memory.{channel, stateOf}
-use Rattle.log.specs.Entries.{entrySays, entryLeaves, entryReturned}
+use Rattle.log.specs.Entries.{entryLeaves, entryReturned}
 use Rattle.lines.specs.declared.Line.{Line}
 use Rattle.lines.specs.Day.{saidLine, lineRoom, lineOf}
 use Rattle.lines.specs.Steps.{Wrote}
 use Rattle.lines.proofs.Wrote.{and-then, start-wiped}
 use Rattle.day.specs.declared.Replayed.{Replayed}
 use Rattle.day.specs.Day.{entryAt, entryCount, entries, replayed, logLines, joined, logIn, replayReturned}
-use Rattle.day.specs.Steps.{answerLine, Stepped, Went}
+use Rattle.day.specs.Steps.{Stepped, Went}
 use Rattle.day.proofs.Sequences.{joined-next}
 use Rattle.day.proofs.Pieces.{tableAfter-all, tableAfter-next, linesTo-all, linesTo-next}
 
@@ -37,6 +37,7 @@ line-wrote line x is h w =
 
 -- ---- one log record
 
+-- what the step gives, with its line put
 pub stepped : {m : Channel} {o : List ℕ} {place at n : ℕ} {t u x : List ℕ} {a : Answer} {line : Line}
     → a ≡ entryReturned m o → x ≡ entryLeaves m o .memory → line ≡ lineOf (saidLine place (a .refusal) (a .number)) → line .length ≤ lineRoom
     → Wrote t at (take (line .length) (line .octets)) n u

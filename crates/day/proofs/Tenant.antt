@@ -14,9 +14,9 @@ use Rattle.table.specs.Table.{Call, clock, reserve, distance, wipe}
 use Rattle.table.specs.Memory.{leaves, opened}
 use Rattle.trace.specs.Sequences.{names, only, without}
 use Rattle.trace.proofs.Demand3.{wiped-without-trace}
-use Rattle.log.specs.declared.Entry.{Entry}
-use Rattle.log.specs.declared.Entry.the-variants.{Clock, Reserve, SetDistance, Wipe, NoCall}
-use Rattle.log.specs.Entries.{logRecordOf, entryOf, byCall, entryLeaves}
+use Rattle.log.specs.declared.LoggedCall.{LoggedCall}
+use Rattle.log.specs.declared.LoggedCall.the-variants.{Clock, Reserve, SetDistance, Wipe, NoCall}
+use Rattle.log.specs.Entries.{logRecordOf, callIn, byCall, entryLeaves}
 use Rattle.day.specs.Day.{entries, replayed}
 use Rattle.day.specs.Claims.{callsIn, isOf, withoutTenant, wipeRecord, TenantTakenOut}
 use Rattle.day.proofs.Entries.{isWhole, entries-append, entries-whole, entries-one, entries-joined}
@@ -26,9 +26,9 @@ use Rattle.day.proofs.ByHand.{runs-callsIn, transcript-callsIn}
 -- ---- the log record of a wipe
 
 -- it asks for the wipe
-entryOf-wipe : (A : ℕ) → A < 2 ^ 32 → entryOf (wipeRecord A) ≡ Wipe A
-unfolding entryOf logRecordOf numberAt little number
-entryOf-wipe A h = ap Wipe (number-little 4 A h)
+callIn-wipe : (A : ℕ) → A < 2 ^ 32 → callIn (wipeRecord A) ≡ Wipe A
+unfolding callIn logRecordOf numberAt little number
+callIn-wipe A h = ap Wipe (number-little 4 A h)
 
 -- it is a log of one log record
 entries-wipe : (A : ℕ) → entries (wipeRecord A) ≡ wipeRecord A ∷ []
@@ -38,7 +38,7 @@ entries-wipe A = entries-one (wipeRecord A) (lit< tt) (lit≤ tt)
 -- at the end of a log of whole log records it wipes what the log left
 replayed-wipe : (m : Channel) (s : List ℕ) (A : ℕ) → len s % 24 ≡ 0 → A < 2 ^ 32 → replayed m (s ++ wipeRecord A) ≡ leaves (replayed m s) (wipe A)
 unfolding entryLeaves
-replayed-wipe m s A w h = rw (entries-append s (wipeRecord A) w, entries-wipe A, runs-next, entryOf-wipe A h)
+replayed-wipe m s A w h = rw (entries-append s (wipeRecord A) w, entries-wipe A, runs-next, callIn-wipe A h)
 
 -- ---- a tenant's log records taken out
 
@@ -53,7 +53,7 @@ module _ (A : ℕ) (e : List ℕ) (es : List (List ℕ)) (cs : List Call) (rest 
       go false = f ∙ rw rest
 
   -- whatever it asks for; where it asks for none, it stays and adds no call
-  keep-byCall : (u : Entry) → entryOf e ≡ u
+  keep-byCall : (u : LoggedCall) → callIn e ≡ u
       → callsIn (cond (not (byCall u (names (only A)) false)) (e ∷ es) es) ≡ without (only A) (byCall u (λ c. c ∷ cs) cs)
   keep-byCall (Clock slot) f = keep-call (clock slot) (rw f)
   keep-byCall (Reserve q) f = keep-call (reserve q) (rw f)
@@ -64,7 +64,7 @@ module _ (A : ℕ) (e : List ℕ) (es : List (List ℕ)) (cs : List Call) (rest 
 -- the log records that stay ask for the calls that stay
 callsIn-keep : (A : ℕ) (es : List (List ℕ)) → callsIn (keep (λ e. not (isOf A e)) es) ≡ without (only A) (callsIn es)
 callsIn-keep A [] = refl
-callsIn-keep A (e ∷ es) = keep-byCall A e (keep (λ o. not (isOf A o)) es) (callsIn es) (callsIn-keep A es) (entryOf e) refl
+callsIn-keep A (e ∷ es) = keep-byCall A e (keep (λ o. not (isOf A o)) es) (callsIn es) (callsIn-keep A es) (callIn e) refl
 
 -- they are read back from the log without the tenant's
 entries-withoutTenant : (A : ℕ) (s : List ℕ) → len s % 24 ≡ 0 → entries (withoutTenant A s) ≡ keep (λ e. not (isOf A e)) (entries s)

@@ -12,7 +12,8 @@ use Rattle.table.specs.Table.{Said, Call}
 use Rattle.table.specs.Memory.{openRefusal, opened}
 use Rattle.trace.specs.Machine.{runs, transcript}
 use Rattle.trace.specs.Sequences.{onOctets, names, only, othersTold, othersHadRoom}
-use Rattle.log.specs.Entries.{entryOf, byCall, entrySays}
+use Rattle.log.specs.declared.LoggedCall.the-variants.{NoCall}
+use Rattle.log.specs.Entries.{callIn, byCall, entrySays}
 use Rattle.lines.specs.Text.{text}
 use Rattle.lines.specs.Day.{saidLine}
 use Rattle.day.specs.Day.{entryAt, entryCount, entries, onLog, replayed, logLines, joined, replayText, momentText}
@@ -22,12 +23,12 @@ use Rattle.day.specs.Day.{entryAt, entryCount, entries, onLog, replayed,
 -- the calls that log records ask for, in order; one that asks for none is left out
 abbrev pub callsIn : List (List ℕ) → List Call
 callsIn [] = []
-callsIn (e ∷ es) = byCall (entryOf e) (λ c. c ∷ callsIn es) (callsIn es)
+callsIn (e ∷ es) = byCall (callIn e) (λ c. c ∷ callsIn es) (callsIn es)
 
 -- these calls, each with the answer that its log record got
 abbrev pub callsTold : List (List ℕ × Said) → List (Call × Said)
 callsTold [] = []
-callsTold (e ∷ es) = byCall (entryOf (e .0)) (λ c. (c, e .1) ∷ callsTold es) (callsTold es)
+callsTold (e ∷ es) = byCall (callIn (e .0)) (λ c. (c, e .1) ∷ callsTold es) (callsTold es)
 
 -- a replayed log leaves what the same calls made by hand leave, and says the same of each
 abbrev pub ByHand : Type 0
@@ -36,9 +37,9 @@ ByHand =
     → (replayed m s ≡ runs onOctets m (callsIn (entries s)))
     × (callsTold (transcript onLog m (entries s)) ≡ transcript onOctets m (callsIn (entries s)))
 
--- a log record that asks for no call says 23 and changes nothing
+-- a log record with no call in it is answered 23, and changes nothing
 abbrev pub NoCallSays : Type 0
-NoCallSays = (m : Channel) (o : List ℕ) → callsIn (o ∷ []) ≡ [] → (onLog .leaves m o ≡ m) × (onLog .says m o ≡ record { refusal = 23; number = 0 })
+NoCallSays = (m : Channel) (o : List ℕ) → callIn o ≡ NoCall → (onLog .leaves m o ≡ m) × (onLog .says m o ≡ record { refusal = 23; number = 0 })
 
 -- ---- the text
 
@@ -58,7 +59,7 @@ IncompleteLast =
     → (replayed m (s ++ t) ≡ replayed m s)
     × (logLines place m (s ++ t) ≡ logLines place m s ++ (saidLine (place + entryCount s) 23 0 ∷ []))
 
--- a log read in pieces of whole log records gives the same text and the same end as in one
+-- a log read in pieces, the first of whole log records, gives the same text and the same end as in one
 abbrev pub InPieces : Type 0
 InPieces =
     (place : ℕ) (m : Channel) (s t : List ℕ) → len s % 24 ≡ 0
@@ -76,9 +77,9 @@ CutAfter =
 
 -- a log record that asks for a reserve, distance or wipe of A
 abbrev pub isOf : ℕ → List ℕ → Bool
-isOf A e = byCall (entryOf e) (names (only A)) false
+isOf A e = byCall (callIn e) (names (only A)) false
 
--- a log with A's records taken out
+-- a log with A's log records taken out
 abbrev pub withoutTenant : ℕ → List ℕ → List ℕ
 withoutTenant A s = joined (keep (λ e. not (isOf A e)) (entries s))
 
@@ -86,9 +87,9 @@ withoutTenant A s = joined (keep (λ e. not (isOf A e)) (entries s))
 abbrev pub wipeRecord : ℕ → List ℕ
 wipeRecord A = 4 ∷ 0 ∷ 0 ∷ 0 ∷ little 4 A ++ replicate 16 0
 
--- Take any log of whole log records, replayed on a table after an accepted opening, in which no other station's reservation was refused
--- because the table was full. With a wipe of A at its end it leaves what the log with A's records taken out leaves: the octets, M1, the clock
--- and the count. Every reserve, distance and wipe of other stations is answered the same in both.
+-- Take any station A that a log record can name, and any log of whole log records, replayed on a table after an accepted opening, in which no
+-- other station's reservation was refused because the table was full. With a wipe of A at its end it leaves what the log with A's log records
+-- taken out leaves: the octets, M1, the clock and the count. Every reserve, distance and wipe of other stations is answered the same in both.
 abbrev pub TenantTakenOut : Type 0
 TenantTakenOut =
     (m1 : ℕ) (b : List ℕ) → openRefusal m1 b ≡ 0 → (A : ℕ) → A < 2 ^ 32 → (s : List ℕ) → len s % 24 ≡ 0

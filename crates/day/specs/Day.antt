@@ -43,18 +43,18 @@ abbrev pub linesFrom : ℕ → List (List ℕ × Said) → List (List ℕ)
 linesFrom place [] = []
 linesFrom place (e ∷ es) = saidLine place (e .1 .refusal) (e .1 .number) ∷ linesFrom (place + 1) es
 
--- the lines of a log, its first record at a place
+-- the lines of a log, its first log record at a place
 abbrev pub logLines : ℕ → Channel → List ℕ → List (List ℕ)
 logLines place m s = linesFrom place (transcript onLog m (entries s))
 
--- lines, or logs, one after the other
+-- lines, or log records, one after the other
 abbrev pub joined : List (List ℕ) → List ℕ
 joined [] = []
 joined (x ∷ xs) = x ++ joined xs
 
 -- ---- what a replay gives
 
--- a lent text has room for a line for each log record, and the places fit 64 bits
+-- a lent text has room for a line for each log record, and the next place fits 64 bits
 abbrev pub hasRoom : ℕ → List ℕ → List ℕ → Bool
 hasRoom place s t = leb (entryCount s * lineRoom) (len t) && ltb (place + entryCount s) (2 ^ 64)
 

@@ -1,4 +1,4 @@
-// A recorded day: a log replayed on a table with a line for each of its records, and the table at a moment.
+// A recorded day: a log replayed on a table with a line for each log record, and the table at a moment.
 use lines::Line;
 use table::State;
 ghost use mathlib.Core.Path.{_≡_};
@@ -97,8 +97,8 @@ fn replay_all(
     r
 }
 
-// Applies a log to a table, its first record at a place, and puts a line for each record into text, which then holds them and zeros only.
-// Where text has no room for a longest line for each record, or a place would not fit, nothing is applied.
+// Applies a log to a table, its first log record at a place, and puts a line for each into text, which then holds them and zeros only.
+// Where text has no room for a longest line for each, or the next place would not fit, nothing is applied.
 pub fn replay(s: State, memory: &mut [u8], place: u64, log: &[u8], text: &mut [u8]) -> Replayed
     ensures answer { λ r. ⌜ (r ≡ replayReturned place (channel s (now (memory .entry))) (logIn place (now (log .entry)) (now (text .entry)))) × (r .length ≤ length (now (text .entry))) ⌝ }
     ensures memory { λ _. ⌜ now (memory .exit) ≡ replayed (channel s (now (memory .entry))) (logIn place (now (log .entry)) (now (text .entry))) .memory ⌝ }

@@ -29,14 +29,15 @@ use Rattle.table.specs.Memory.{channel, stateOf, tableOf, channelOf, callRefusa
 use Rattle.table.specs.Slots.{slotAnswer, stateNumber, slotSaid}
 use Rattle.table.proofs.Calls.{callRefusal-unsound, refused-gives, accepted-gives}
 use Rattle.table.proofs.Memory.{length-kept}
-use Rattle.log.specs.declared.Entry.{Entry}
-use Rattle.log.specs.Entries.{byCall, entrySays, entryLeaves, entryReturned}
-use Rattle.log.proofs.Entries.{entryOf-elim}
+use Rattle.log.specs.declared.LoggedCall.{LoggedCall}
+use Rattle.log.specs.declared.LoggedCall.the-variants.{Clock, Reserve, SetDistance, Wipe, NoCall}
+use Rattle.log.specs.Entries.{logRecordOf, callIn, byCall, entrySays, entryLeaves, entryReturned}
+use Rattle.log.proofs.Entries.{callIn-elim}
 use Rattle.search.specs.declared.Picked.{Picked}
 use Rattle.search.specs.Search.{searched, picked}
 use Rattle.search.proofs.Answers.{found-fits}
 use Rattle.gemthatch.specs.OverC.{overC, callNumber, entryNumber}
-use Rattle.gemthatch.specs.Claims.{moved, formed, slotIn, formedByEntry, StateFormed, EntryFormed, StateOpened, RefusalTold, ReportedSmall, FoundSmall, SlotSmall, RateSmall, PickSmall}
+use Rattle.gemthatch.specs.Claims.{moved, formed, formedByEntry, StateFormed, EntryFormed, StateOpened, RefusalTold, ReportedSmall, EntrySmall, FoundSmall, SlotSmall, RateSmall, PickSmall}
 use Rattle.gemthatch.proofs.Most.{returned-callNumber}
 
 -- ---- overC
@@ -78,6 +79,18 @@ reported-most m (look f) h k = absurd (true≢false h)
 pub reported-small : ReportedSmall
 unfolding says
 reported-small m c h = answer-elim (reported (tableOf m) c) (λ _. 0) (λ n. n ≤ 2048) (callRefusal m c) (λ z. reported-most m c h (accepted-held m c z)) (λ _. zero-le)
+
+-- whatever call is in a log record
+byCall-small : (m : Channel) (e : LoggedCall) → byCall e (says m) (record { refusal = 23; number = 0 }) .number ≤ 2048
+byCall-small m (Clock slot) = reported-small m (clock slot) refl
+byCall-small m (Reserve q) = reported-small m (reserve q) refl
+byCall-small m (SetDistance s d limit) = reported-small m (distance s d limit) refl
+byCall-small m (Wipe s) = reported-small m (wipe s) refl
+byCall-small m NoCall = zero-le
+
+pub entry-small : EntrySmall
+unfolding entrySays
+entry-small m o = byCall-small m (callIn o)
 
 pub found-small : FoundSmall
 unfolding searched
@@ -175,14 +188,14 @@ state-formed s b (look f) = go (leb 2_000_000_000 (callNumber (channel s b) (loo
 pub entry-formed : EntryFormed
 unfolding entryNumber entrySays entryReturned entryLeaves callNumber returned
 entry-formed s b o =
-    entryOf-elim Formed o (rw (overC-refused 23 0 (omega arith)))
-    (λ h. rw h (state-formed s b (clock (slotIn o))))
+    callIn-elim Formed o (rw (overC-refused 23 0 (omega arith)))
+    (λ h. rw h (state-formed s b (clock (logRecordOf o .slot))))
     (λ h q. rw h (state-formed s b (reserve q)))
     (λ h station d limit. rw h (state-formed s b (distance station d limit)))
     (λ h station. rw h (state-formed s b (wipe station)))
   where
-    -- what is claimed where the octets ask for an entry
-    Formed : Entry → Type 0
+    -- what is claimed where a call is in the octets
+    Formed : LoggedCall → Type 0
     Formed e =
         let m = channel s b in
         let a = byCall e (says m) (record { refusal = 23; number = 0 }) in

@@ -17,9 +17,9 @@ use Rattle.table.specs.Table.{Call, clock, reserve, distance, wipe, look, isLoo
 use Rattle.table.specs.declared.Answer.{Answer}
 use Rattle.table.specs.Memory.{tableOf, callRefusal, says, returned, openRefusal}
 use Rattle.table.specs.Slots.{slotState, slotRefusal, slotAnswer, slotSaid}
-use Rattle.log.specs.declared.Entry.{Entry}
-use Rattle.log.specs.declared.Entry.the-variants.{Clock, Reserve, SetDistance, Wipe, NoCall}
-use Rattle.log.specs.Entries.{byCall, entryOf, entrySays, entryReturned}
+use Rattle.log.specs.declared.LoggedCall.{LoggedCall}
+use Rattle.log.specs.declared.LoggedCall.the-variants.{Clock, Reserve, SetDistance, Wipe, NoCall}
+use Rattle.log.specs.Entries.{byCall, callIn, entrySays, entryReturned}
 use Rattle.search.specs.declared.Query.{Query}
 use Rattle.search.specs.declared.Picked.{Picked}
 use Rattle.search.specs.Search as Search
@@ -48,7 +48,7 @@ module _ (a : Answer) (m : Channel) (c : Call) (e : a ≡ returned m c) where
   returned-callNumber = ap (λ (x : Answer). overC (x .refusal) (x .number)) e
 
 -- what an entry asks for has no larger number, nor has 23
-byCall-most : (m : Channel) (e : Entry) → byCall e (says m) (record { refusal = 23; number = 0 }) .refusal ≤ largestRefusal
+byCall-most : (m : Channel) (e : LoggedCall) → byCall e (says m) (record { refusal = 23; number = 0 }) .refusal ≤ largestRefusal
 byCall-most m (Clock slot) = says-most m (clock slot) refl
 byCall-most m (Reserve q) = says-most m (reserve q) refl
 byCall-most m (SetDistance s d limit) = says-most m (distance s d limit) refl
@@ -59,7 +59,7 @@ byCall-most m NoCall = omega arith
 module _ (a : Answer) (m : Channel) (o : List ℕ) (e : a ≡ entryReturned m o) where
   pub entry-most : a .refusal ≤ largestRefusal
   unfolding entryReturned entrySays
-  entry-most = rw e (byCall-most m (entryOf o))
+  entry-most = rw e (byCall-most m (callIn o))
 
   -- as one number
   pub returned-entryNumber : overC (a .refusal) (a .number) ≡ entryNumber m o

@@ -4,7 +4,6 @@ use mathlib.Core.Path.{_≡_}
 use mathlib.Core.Bool.{false, cond}
 use mathlib.Core.List.{List}
 use lib.Dec.{leb, eqb}
-use Rattle.octets.specs.Octets.{numberAt}
 use Rattle.codec.specs.declared.Block.{Block}
 use Rattle.codec.specs.Rates.{rateLookup}
 use Rattle.sound.specs.Sound.{Channel}
@@ -12,7 +11,7 @@ use Rattle.table.specs.declared.State.{State}
 use Rattle.table.specs.Table.{Call, clock, reserve, distance, wipe, look, isLook}
 use Rattle.table.specs.Memory.{channel, says, returned, openRefusal, openReturned}
 use Rattle.table.specs.Slots.{slotAnswer, slotSaid}
-use Rattle.log.specs.Entries.{entryReturned}
+use Rattle.log.specs.Entries.{logRecordOf, entrySays, entryReturned}
 use Rattle.search.specs.declared.Query.{Query}
 use Rattle.search.specs.Search.{searched, picked}
 use Rattle.gemthatch.specs.OverC.{hostBlock, blockFrom, overC, callNumber, entryNumber}
@@ -35,19 +34,13 @@ moved s (look f) x = s
 abbrev pub formed : State → Call → ℕ → State
 formed s c x = cond (leb 2_000_000_000 x) s (moved s c x)
 
--- the operation and the slot in the octets of a log record
-abbrev pub operationIn : List ℕ → ℕ
-operationIn o = numberAt 1 o 0
-
-abbrev pub slotIn : List ℕ → ℕ
-slotIn o = numberAt 4 o 8
-
 -- the state that an accepted log record leaves, formed from its operation and the number returned: 1 clock, 2 reserve, 4 wipe
 abbrev pub entryMoved : State → List ℕ → ℕ → State
 entryMoved s o x =
-    cond (eqb (operationIn o) 1) (record { m1 = s .m1; now = slotIn o; count = s .count - x })
-    (cond (eqb (operationIn o) 2) (record { m1 = s .m1; now = s .now; count = s .count + 1 })
-    (cond (eqb (operationIn o) 4) (record { m1 = s .m1; now = s .now; count = s .count - x })
+    let r = logRecordOf o in
+    cond (eqb (r .operation) 1) (record { m1 = s .m1; now = r .slot; count = s .count - x })
+    (cond (eqb (r .operation) 2) (record { m1 = s .m1; now = s .now; count = s .count + 1 })
+    (cond (eqb (r .operation) 4) (record { m1 = s .m1; now = s .now; count = s .count - x })
     s))
 
 -- the next state: as it was where the log record was refused
@@ -84,6 +77,10 @@ RefusalTold = (refusal number : ℕ) → number < 2_000_000_000 → refusalIn (o
 abbrev pub ReportedSmall : Type 0
 ReportedSmall = (m : Channel) (c : Call) → isLook c ≡ false → says m c .number ≤ 2048
 
+-- so does a log record
+abbrev pub EntrySmall : Type 0
+EntrySmall = (m : Channel) (o : List ℕ) → entrySays m o .number ≤ 2048
+
 -- a search finds at most 16 starts
 abbrev pub FoundSmall : Type 0
 FoundSmall = (m : Channel) (q : Query) (places : ℕ) → searched m q places .number ≤ 16
@@ -107,6 +104,7 @@ pub record Claims : Type 0 where
   pub state-opened : StateOpened
   pub refusal-told : RefusalTold
   pub reported-small : ReportedSmall
+  pub entry-small : EntrySmall
   pub found-small : FoundSmall
   pub slot-small : SlotSmall
   pub rate-small : RateSmall

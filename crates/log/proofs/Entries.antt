@@ -7,16 +7,16 @@ use lib.Dec.{eqb}
 use lib.Ieee.{Float}
 use lib.ListN.{length as len}
 use borrow.Author.Tests.{eqb-true}
-use Rattle.octets.specs.Octets.{numberAt, zeros}
+use Rattle.octets.specs.Octets.{zeros}
 use Rattle.distance.specs.declared.Distance.{Distance}
 use Rattle.sound.specs.Sound.{Channel}
 use Rattle.table.specs.declared.Answer.{Answer}
 use Rattle.table.specs.declared.Request.{Request}
 use Rattle.table.specs.Table.{Call}
 use Rattle.table.specs.Memory.{stateOf, returned, Gives}
-use Rattle.log.specs.declared.Entry.{Entry}
-use Rattle.log.specs.declared.Entry.the-variants.{Clock, Reserve, SetDistance, Wipe, NoCall}
-use Rattle.log.specs.Entries.{logRecordOf, whereZero, byCall, entryOf, entrySays, entryLeaves, entryReturned}
+use Rattle.log.specs.declared.LoggedCall.{LoggedCall}
+use Rattle.log.specs.declared.LoggedCall.the-variants.{Clock, Reserve, SetDistance, Wipe, NoCall}
+use Rattle.log.specs.Entries.{logRecordOf, whereZero, byCall, callIn, entrySays, entryLeaves, entryReturned}
 
 -- ---- what octets ask for
 
@@ -25,19 +25,19 @@ by-cond : {A : Type 0} (P : A → Type 0) (t : Bool) {x y : A} → (t ≡ true �
 by-cond P true f g = f refl
 by-cond P false f g = g refl
 
--- and from a call that is asked for where the unused fields are 0
-where-zero : (P : Entry → Type 0) (unused : List ℕ) (call : Entry) → P NoCall → P call → P (whereZero unused call)
+-- and from a call where the unused fields are 0
+where-zero : (P : LoggedCall → Type 0) (unused : List ℕ) (call : LoggedCall) → P NoCall → P call → P (whereZero unused call)
 where-zero P unused call none f = by-cond P (zeros unused) (λ _. f) (λ _. none)
 
--- the ways to go on from what octets ask for: no call, or one by the operation
-pub entryOf-elim : (P : Entry → Type 0) (o : List ℕ) → P NoCall
-    → (numberAt 1 o 0 ≡ 1 → P (Clock (numberAt 4 o 8)))
-    → (numberAt 1 o 0 ≡ 2 → (q : Request) → P (Reserve q))
-    → (numberAt 1 o 0 ≡ 3 → (s : ℕ) (d : Distance) (limit : Float) → P (SetDistance s d limit))
-    → (numberAt 1 o 0 ≡ 4 → (s : ℕ) → P (Wipe s))
-    → P (entryOf o)
-unfolding entryOf logRecordOf
-entryOf-elim P o none c r d w =
+-- the ways to go on from the call in octets: none, or one by the operation
+pub callIn-elim : (P : LoggedCall → Type 0) (o : List ℕ) → P NoCall
+    → (logRecordOf o .operation ≡ 1 → P (Clock (logRecordOf o .slot)))
+    → (logRecordOf o .operation ≡ 2 → (q : Request) → P (Reserve q))
+    → (logRecordOf o .operation ≡ 3 → (s : ℕ) (d : Distance) (limit : Float) → P (SetDistance s d limit))
+    → (logRecordOf o .operation ≡ 4 → (s : ℕ) → P (Wipe s))
+    → P (callIn o)
+unfolding callIn
+callIn-elim P o none c r d w =
     let f = logRecordOf o in
     let series : List ℕ → List ℕ = λ others. f .rate ∷ f .superframes ∷ f .length ∷ others in
     by-cond P (eqb (len o) 24)
@@ -55,16 +55,16 @@ entryOf-elim P o none c r d w =
 abbrev pub Steps : Channel → List ℕ → Answer → List ℕ → Type 0
 Steps m o r b = (r ≡ entryReturned m o) × (b ≡ entryLeaves m o .memory)
 
--- it gives what the call gives that its entry asks for
-pub call-steps : (m : Channel) (o : List ℕ) {e : Entry} {k : Call} {r : Answer} {b : List ℕ}
-    → entryOf o ≡ e
+-- it gives what the call in the log record gives
+pub call-steps : (m : Channel) (o : List ℕ) {e : LoggedCall} {k : Call} {r : Answer} {b : List ℕ}
+    → callIn o ≡ e
     → ((A : Type 0) (f : Call → A) (none : A) → byCall e f none ≡ f k)
     → Gives m k r b
     → Steps m o r b
 unfolding entryReturned entryLeaves entrySays returned
 call-steps m o asks is g = simp (asks, is) (g .result, g .octets)
 
--- and 23, all as it was, where it asks for none
-pub no-call-steps : (m : Channel) (o : List ℕ) → entryOf o ≡ NoCall → Steps m o (record { refusal = 23; number = 0; state = stateOf m }) (m .memory)
+-- and 23, all as it was, where there is none
+pub no-call-steps : (m : Channel) (o : List ℕ) → callIn o ≡ NoCall → Steps m o (record { refusal = 23; number = 0; state = stateOf m }) (m .memory)
 unfolding entryReturned entryLeaves entrySays
 no-call-steps m o asks = simp asks (refl, refl)

@@ -13,8 +13,8 @@ use Rattle.table.specs.declared.Answer.{Answer}
 use Rattle.table.specs.Table.{Said, Call, clock, reserve, distance, wipe}
 use Rattle.table.specs.Memory.{stateOf, leaves, says}
 use Rattle.log.specs.declared.LogRecord.{LogRecord}
-use Rattle.log.specs.declared.Entry.{Entry}
-use Rattle.log.specs.declared.Entry.the-variants.{Clock, Reserve, SetDistance, Wipe, NoCall}
+use Rattle.log.specs.declared.LoggedCall.{LoggedCall}
+use Rattle.log.specs.declared.LoggedCall.the-variants.{Clock, Reserve, SetDistance, Wipe, NoCall}
 
 -- ---- the layout
 
@@ -40,17 +40,17 @@ inMiles n = cond (eqb n 0xFFFF_FFFF) Unknown (Range (num n))
 -- ---- what a log record asks for
 
 -- a call, where the fields that it does not use are 0
-abbrev pub whereZero : List ℕ → Entry → Entry
+abbrev pub whereZero : List ℕ → LoggedCall → LoggedCall
 whereZero unused call = cond (zeros unused) call NoCall
 
 -- clock: the slot is used
-abbrev pub clockEntry : LogRecord → Entry
-clockEntry r =
+abbrev pub clockIn : LogRecord → LoggedCall
+clockIn r =
     whereZero (r .rate ∷ r .superframes ∷ r .length ∷ r .station ∷ r .distance ∷ r .limit ∷ r .closing ∷ []) (Clock (r .slot))
 
 -- reserve: all are used, bs in the slot's place
-abbrev pub reserveEntry : LogRecord → Entry
-reserveEntry r =
+abbrev pub reserveIn : LogRecord → LoggedCall
+reserveIn r =
     whereZero (r .closing ∷ [])
     (Reserve
     (record {
@@ -64,46 +64,46 @@ reserveEntry r =
     }))
 
 -- distance: the station, the distance and the limit are used
-abbrev pub distanceEntry : LogRecord → Entry
-distanceEntry r =
+abbrev pub distanceIn : LogRecord → LoggedCall
+distanceIn r =
     whereZero (r .rate ∷ r .superframes ∷ r .length ∷ r .slot ∷ r .closing ∷ [])
     (SetDistance (r .station) (inMiles (r .distance)) (num (r .limit)))
 
 -- wipe: the station is used
-abbrev pub wipeEntry : LogRecord → Entry
-wipeEntry r =
+abbrev pub wipeIn : LogRecord → LoggedCall
+wipeIn r =
     whereZero (r .rate ∷ r .superframes ∷ r .length ∷ r .slot ∷ r .distance ∷ r .limit ∷ r .closing ∷ []) (Wipe (r .station))
 
 -- by the operation: 1 clock, 2 reserve, 3 distance, 4 wipe; another is no call
-abbrev pub byOperation : LogRecord → Entry
+abbrev pub byOperation : LogRecord → LoggedCall
 byOperation r =
-    cond (eqb (r .operation) 1) (clockEntry r)
-    (cond (eqb (r .operation) 2) (reserveEntry r)
-    (cond (eqb (r .operation) 3) (distanceEntry r)
-    (cond (eqb (r .operation) 4) (wipeEntry r)
+    cond (eqb (r .operation) 1) (clockIn r)
+    (cond (eqb (r .operation) 2) (reserveIn r)
+    (cond (eqb (r .operation) 3) (distanceIn r)
+    (cond (eqb (r .operation) 4) (wipeIn r)
     NoCall)))
 
--- what any octets ask for: a log record has 24
-unfoldable pub entryOf : List ℕ → Entry
-entryOf o = cond (eqb (len o) 24) (byOperation (logRecordOf o)) NoCall
+-- the call in any octets: a log record has 24
+unfoldable pub callIn : List ℕ → LoggedCall
+callIn o = cond (eqb (len o) 24) (byOperation (logRecordOf o)) NoCall
 
 -- ---- a log record applied to a table
 
--- what follows from the call that an entry asks for; where it asks for none, `none`
-abbrev pub byCall : {A : Type 0} → Entry → (Call → A) → A → A
+-- what follows from the call in a log record; where there is none, `none`
+abbrev pub byCall : {A : Type 0} → LoggedCall → (Call → A) → A → A
 byCall (Clock slot) follows none = follows (clock slot)
 byCall (Reserve q) follows none = follows (reserve q)
 byCall (SetDistance s d limit) follows none = follows (distance s d limit)
 byCall (Wipe s) follows none = follows (wipe s)
 byCall NoCall follows none = none
 
--- its answer: the call's, or 23, before any table check
+-- its answer: the call's; where there is none 23, before any table check
 unfoldable pub entrySays : Channel → List ℕ → Said
-entrySays m o = byCall (entryOf o) (says m) (record { refusal = 23; number = 0 })
+entrySays m o = byCall (callIn o) (says m) (record { refusal = 23; number = 0 })
 
 -- the octets and the state that it leaves: what the call leaves; a 23 changes nothing
 unfoldable pub entryLeaves : Channel → List ℕ → Channel
-entryLeaves m o = byCall (entryOf o) (leaves m) m
+entryLeaves m o = byCall (callIn o) (leaves m) m
 
 -- what the step returns: the answer, and the state handed back
 unfoldable pub entryReturned : Channel → List ℕ → Answer

@@ -9,7 +9,7 @@ ghost use lib.ListN.{length};
 ghost use Rattle.octets.specs.Octets.{zeros};
 ghost use Rattle.distance.specs.Distances.{num};
 ghost use Rattle.table.specs.Memory.{channel};
-ghost use Rattle.log.specs.Entries.{logRecordOf, inMiles, clockEntry, reserveEntry, distanceEntry, wipeEntry, byOperation, entryOf, entryLeaves, entryReturned};
+ghost use Rattle.log.specs.Entries.{logRecordOf, inMiles, clockIn, reserveIn, distanceIn, wipeIn, byOperation, callIn, entryLeaves, entryReturned};
 ghost use Rattle.log.specs.Claims.{Claims};
 
 // The octets of a log record.
@@ -29,7 +29,7 @@ struct LogRecord {
 }
 
 // What a log record asks for: a call of the table, or none, which is refused 23.
-pub enum Entry {
+pub enum LoggedCall {
     Clock(u32),
     Reserve(Request),
     SetDistance(u32, Distance, f64),
@@ -78,22 +78,22 @@ fn no_series(r: LogRecord) -> bool
     (r.rate == 0) & (r.superframes == 0) & (r.length == 0)
 }
 
-fn clock_entry(r: LogRecord) -> Entry
-    ensures { λ e. ⌜ e ≡ clockEntry r ⌝ }
+fn clock_in(r: LogRecord) -> LoggedCall
+    ensures { λ e. ⌜ e ≡ clockIn r ⌝ }
 {
     let others = (r.station == 0) & (r.distance == 0) & (r.limit == 0) & (r.closing == 0);
     if no_series(r) & others {
-        return Entry::Clock(r.slot);
+        return LoggedCall::Clock(r.slot);
     }
-    Entry::NoCall
+    LoggedCall::NoCall
 }
 
-fn reserve_entry(r: LogRecord) -> Entry
-    ensures { λ e. ⌜ e ≡ reserveEntry r ⌝ }
+fn reserve_in(r: LogRecord) -> LoggedCall
+    ensures { λ e. ⌜ e ≡ reserveIn r ⌝ }
 {
     if r.closing == 0 {
         let d = in_miles(r.distance);
-        return Entry::Reserve(Request {
+        return LoggedCall::Reserve(Request {
             station: r.station,
             rate: r.rate as u32,
             superframes: r.superframes as u32,
@@ -103,55 +103,55 @@ fn reserve_entry(r: LogRecord) -> Entry
             limit: miles(r.limit),
         });
     }
-    Entry::NoCall
+    LoggedCall::NoCall
 }
 
-fn distance_entry(r: LogRecord) -> Entry
-    ensures { λ e. ⌜ e ≡ distanceEntry r ⌝ }
+fn distance_in(r: LogRecord) -> LoggedCall
+    ensures { λ e. ⌜ e ≡ distanceIn r ⌝ }
 {
     if no_series(r) & (r.slot == 0) & (r.closing == 0) {
         let d = in_miles(r.distance);
-        return Entry::SetDistance(r.station, d, miles(r.limit));
+        return LoggedCall::SetDistance(r.station, d, miles(r.limit));
     }
-    Entry::NoCall
+    LoggedCall::NoCall
 }
 
-fn wipe_entry(r: LogRecord) -> Entry
-    ensures { λ e. ⌜ e ≡ wipeEntry r ⌝ }
+fn wipe_in(r: LogRecord) -> LoggedCall
+    ensures { λ e. ⌜ e ≡ wipeIn r ⌝ }
 {
     let others = (r.slot == 0) & (r.distance == 0) & (r.limit == 0) & (r.closing == 0);
     if no_series(r) & others {
-        return Entry::Wipe(r.station);
+        return LoggedCall::Wipe(r.station);
     }
-    Entry::NoCall
+    LoggedCall::NoCall
 }
 
-fn by_operation(r: LogRecord) -> Entry
+fn by_operation(r: LogRecord) -> LoggedCall
     ensures { λ e. ⌜ e ≡ byOperation r ⌝ }
 {
     if r.operation == 1 {
-        return clock_entry(r);
+        return clock_in(r);
     }
     if r.operation == 2 {
-        return reserve_entry(r);
+        return reserve_in(r);
     }
     if r.operation == 3 {
-        return distance_entry(r);
+        return distance_in(r);
     }
     if r.operation == 4 {
-        return wipe_entry(r);
+        return wipe_in(r);
     }
-    Entry::NoCall
+    LoggedCall::NoCall
 }
 
 // What octets ask for.
-pub fn read(octets: &[u8]) -> Entry
-    ensures { λ e. ⌜ e ≡ entryOf (now (octets .entry)) ⌝ }
+pub fn read(octets: &[u8]) -> LoggedCall
+    ensures { λ e. ⌜ e ≡ callIn (now (octets .entry)) ⌝ }
 {
     if octets.len() == ENTRY {
         return by_operation(log_record(octets));
     }
-    Entry::NoCall
+    LoggedCall::NoCall
 }
 
 // Applies a log record to a table. Refused 23 where it asks for no call, before anything that its call is refused for.
@@ -161,11 +161,11 @@ pub fn step(s: State, memory: &mut [u8], octets: &[u8]) -> Answer
 {
     let e = read(octets);
     match e {
-        Entry::Clock(slot) => s.clock(memory, slot),
-        Entry::Reserve(q) => s.reserve(memory, q),
-        Entry::SetDistance(station, d, limit) => s.distance(memory, station, d, limit),
-        Entry::Wipe(station) => s.wipe(memory, station),
-        Entry::NoCall => Answer {
+        LoggedCall::Clock(slot) => s.clock(memory, slot),
+        LoggedCall::Reserve(q) => s.reserve(memory, q),
+        LoggedCall::SetDistance(station, d, limit) => s.distance(memory, station, d, limit),
+        LoggedCall::Wipe(station) => s.wipe(memory, station),
+        LoggedCall::NoCall => Answer {
             refusal: 23,
             number: 0,
             state: s,

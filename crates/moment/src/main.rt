@@ -1,6 +1,10 @@
 // Shows the table that the log on standard input leaves: M1, now and count, and its records.
-ghost use Prim.Native.Nat.{_<_, _≤_};
+ghost use Prim.Native.Nat.{_*_, _<_, _≤_};
+ghost use mathlib.Core.Path.{_≡_};
 ghost use lib.ListN.{length};
+ghost use Rattle.table.specs.Memory.{channel};
+ghost use Rattle.lines.specs.Day.{lineRoom};
+ghost use Rattle.day.specs.Day.{entryCount, dayOpened};
 ghost use Rattle.moment.specs.Steps.{keptAfter};
 use libc::STDIN_FILENO;
 use libc::STDOUT_FILENO;
@@ -31,9 +35,10 @@ enum Turn {
     ReadFailed,
 }
 
-// One read: its whole log records are replayed, and what is left is held.
+// One read: its whole log records are replayed, and what is left is held. Only the room that their lines may need is lent, since all that is
+// lent is wiped.
 fn take_turn(buffer: &mut [u8], memory: &mut [u8], text: &mut [u8], at: Standing) -> Turn
-    requires { ⌜ (at .held < 24) × (24 ≤ length (now buffer)) ⌝ }
+    requires { ⌜ (at .held < 24) × (24 ≤ length (now buffer)) × (entryCount (now buffer) * lineRoom ≤ length (now text)) ⌝ }
     ensures { λ r. ⌜ keptAfter r < 24 ⌝ }
 {
     let held = at.held;
@@ -47,8 +52,9 @@ fn take_turn(buffer: &mut [u8], memory: &mut [u8], text: &mut [u8], at: Standing
     let total = held + io::count(got, &buffer[held..]);
     let left = total % log::ENTRY;
     let whole = total - left;
+    let room = whole / log::ENTRY * lines::LINE;
     let state = at.state;
-    let r = day::replay(state, memory, at.place, &buffer[..whole], text);
+    let r = day::replay(state, memory, at.place, &buffer[..whole], &mut text[..room]);
     octets::to_front(buffer, whole, left);
     let next = r.state;
     Turn::More(Standing {
@@ -66,7 +72,9 @@ fn write(text: &[u8]) {
 }
 
 // What follows the last turn: the table. The octets of an incomplete log record change nothing. Where a read failed there is no end to show.
-fn finish(last: Turn, memory: &[u8], text: &mut [u8], state: State) {
+fn finish(last: Turn, memory: &[u8], text: &mut [u8], state: State)
+    requires { ⌜ 2049 * lineRoom ≤ length (now text) ⌝ }
+{
     match last {
         Turn::ReadFailed => {
             os::fail(b"moment: standard input");
@@ -82,7 +90,7 @@ fn finish(last: Turn, memory: &[u8], text: &mut [u8], state: State) {
 
 // A proved loop has to end, and nothing says that the input does, so the turns are counted down.
 fn replay_input(buffer: &mut [u8], memory: &mut [u8], text: &mut [u8], state: State)
-    requires { ⌜ 24 ≤ length (now buffer) ⌝ }
+    requires { ⌜ (24 ≤ length (now buffer)) × (entryCount (now buffer) * lineRoom ≤ length (now text)) × (2049 * lineRoom ≤ length (now text)) × (channel state (now memory) ≡ dayOpened) ⌝ }
 {
     let mut at = Standing {
         state,

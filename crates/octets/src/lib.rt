@@ -1,4 +1,4 @@
-// Little-endian numbers in octets, two's complement, and octets that are 0.
+// Little-endian numbers in octets, two's complement, octets that are 0, and octets copied to the front.
 ghost use mathlib.Core.Path.{_≡_};
 ghost use Prim.Native.Nat.{_+_, _<_, _≤_};
 ghost use mathlib.Core.Bool.{_&&_};

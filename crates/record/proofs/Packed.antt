@@ -54,6 +54,11 @@ packed-none m w =
     let e : (capacity m - 0) * size ≡ length m = unfold size in omega (arith, whole-length m w) in
     rw e
 
+-- 12 zeros to a record
+pub packed-zeros : (cap : ℕ) → packed cap [] ≡ replicate (cap * 12) 0
+unfolding packed image size
+packed-zeros cap = let e : cap - 0 ≡ cap = omega arith in rw e
+
 -- and so is one that is cleared after none
 pub clearAfter-none : (m : List ℕ) → clearAfter 0 m ≡ replicate (length m) 0
 unfolding clearAfter

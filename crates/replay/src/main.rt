@@ -1,7 +1,10 @@
 // Replays the log on standard input: a line for each log record, as soon as it has come.
 ghost use Prim.Native.Nat.{_<_, _≤_};
+ghost use mathlib.Core.Path.{_≡_};
 ghost use lib.ListN.{length};
-ghost use Rattle.replay.specs.Steps.{heldAfter};
+ghost use Rattle.table.specs.Memory.{channel};
+ghost use Rattle.day.specs.Day.{dayOpened};
+ghost use Rattle.replay.specs.Steps.{RoomFor, heldAfter};
 use libc::STDIN_FILENO;
 use libc::STDOUT_FILENO;
 use table::State;
@@ -33,19 +36,22 @@ enum Turn {
 }
 
 // What was replayed and shown: where the table and the places stand then, and whether all lines were written.
-struct Shown {
+struct Written {
     state: State,
     place: u64,
     is_written: bool,
 }
 
-// Replays the log records of octets, and writes their lines.
-fn show(octets: &[u8], memory: &mut [u8], text: &mut [u8], state: State, place: u64) -> Shown {
-    let r = day::replay(state, memory, place, octets, text);
+// Replays the log records of octets, and writes their lines. Only the room that they may need is lent, since all that is lent is wiped.
+fn show(octets: &[u8], memory: &mut [u8], text: &mut [u8], state: State, place: u64) -> Written
+    requires { ⌜ RoomFor (now octets) (now text) ⌝ }
+{
+    let room = (octets.len() + 23) / log::ENTRY * lines::LINE;
+    let r = day::replay(state, memory, place, octets, &mut text[..room]);
     let n = r.length;
     let next = r.state;
     let is_written = io::write_all(STDOUT_FILENO, &text[..n]);
-    Shown {
+    Written {
         state: next,
         place: r.place,
         is_written,
@@ -54,7 +60,7 @@ fn show(octets: &[u8], memory: &mut [u8], text: &mut [u8], state: State, place: 
 
 // One read: its whole log records are replayed and shown, and what is left is held.
 fn take_turn(buffer: &mut [u8], memory: &mut [u8], text: &mut [u8], at: Standing) -> Turn
-    requires { ⌜ (at .held < 24) × (24 ≤ length (now buffer)) ⌝ }
+    requires { ⌜ (at .held < 24) × (24 ≤ length (now buffer)) × RoomFor (now buffer) (now text) ⌝ }
     ensures { λ r. ⌜ heldAfter r < 24 ⌝ }
 {
     let held = at.held;
@@ -69,13 +75,13 @@ fn take_turn(buffer: &mut [u8], memory: &mut [u8], text: &mut [u8], at: Standing
     let left = total % log::ENTRY;
     let whole = total - left;
     let state = at.state;
-    let s = show(&buffer[..whole], memory, text, state, at.place);
-    if s.is_written {
+    let w = show(&buffer[..whole], memory, text, state, at.place);
+    if w.is_written {
         octets::to_front(buffer, whole, left);
-        let next = s.state;
+        let next = w.state;
         return Turn::More(Standing {
             state: next,
-            place: s.place,
+            place: w.place,
             held: left,
         });
     }
@@ -90,7 +96,9 @@ fn tell_unless(is_written: bool) {
 }
 
 // What follows the last turn: an incomplete log record has its line too. A read that failed says nothing of the octets held.
-fn finish(last: Turn, held: &[u8], memory: &mut [u8], text: &mut [u8], at: Standing) {
+fn finish(last: Turn, held: &[u8], memory: &mut [u8], text: &mut [u8], at: Standing)
+    requires { ⌜ RoomFor (now held) (now text) ⌝ }
+{
     match last {
         Turn::ReadFailed => {
             os::fail(b"replay: standard input");
@@ -99,8 +107,8 @@ fn finish(last: Turn, held: &[u8], memory: &mut [u8], text: &mut [u8], at: Stand
         Turn::WriteFailed => tell_unless(false),
         Turn::Ended => {
             let state = at.state;
-            let s = show(held, memory, text, state, at.place);
-            tell_unless(s.is_written);
+            let w = show(held, memory, text, state, at.place);
+            tell_unless(w.is_written);
         }
         Turn::More(_) => {}
     }
@@ -108,7 +116,7 @@ fn finish(last: Turn, held: &[u8], memory: &mut [u8], text: &mut [u8], at: Stand
 
 // A proved loop has to end, and nothing says that the input does, so the turns are counted down.
 fn replay_input(buffer: &mut [u8], memory: &mut [u8], text: &mut [u8], state: State)
-    requires { ⌜ 24 ≤ length (now buffer) ⌝ }
+    requires { ⌜ (24 ≤ length (now buffer)) × RoomFor (now buffer) (now text) × (channel state (now memory) ≡ dayOpened) ⌝ }
 {
     let mut at = Standing {
         state,

@@ -519,11 +519,11 @@ fn full_moment(moment: &Subject) -> Verdict {
 }
 
 fn ends_of_input(program: &Subject) -> Verdict {
-    // 1365 records and 8 octets fill a read of 32768 octets; with 1366 records
-    // the last one lies across two reads.
+    // About as many as a program may ask for at once: the last whole one, or
+    // what is left of one, may come by a read of its own.
     let all: Vec<usize> = (0..ENTRY).collect();
     let some = [0, 1, 7, 8, 9, 16, 23];
-    let counts = [(0, &all[..]), (1, &all), (1365, &some), (1366, &some)];
+    let counts = [(0, &all[..]), (1, &all), (1365, &some), (1366, &some), (1367, &some)];
     let mut draw = Draw::from_seed(1105);
     for (count, shorts) in counts {
         let log = logs::day(&mut draw, count, &IDLE);
@@ -542,7 +542,7 @@ fn ends_of_input(program: &Subject) -> Verdict {
         }
     }
     Ok(format!(
-        "0 to 23 octets after 0 and 1 records, {some:?} after 1365 and 1366, from a pipe and \
+        "0 to 23 octets after 0 and 1 records, {some:?} after 1365 to 1367, from a pipe and \
          from a file: same"
     ))
 }

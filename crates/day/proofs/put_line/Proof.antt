@@ -7,8 +7,6 @@ use Rattle.lines.specs.Steps.{Wrote}
 use Rattle.lines.proofs.Wrote.{length-wrote, text-next}
 use Rattle.day.proofs.put_line.Statement.{statement}
 use Rattle.day.proofs.put_line.Tie as tie
-use Rattle.day.proofs.put_line.Reads as reads
-use Rattle.day.proofs.put_line.Lts as lts
 
 abbrev Inv-loop : tie.InvT-loop
 Inv-loop text₀ at octets n i₀ text i = (i ≤ n) × Wrote text₀ at (take i octets) (at + i) text

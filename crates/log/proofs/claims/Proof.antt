@@ -3,12 +3,12 @@ use mathlib.Core.Path.{refl}
 use lib.ListN.{length}
 use borrow.Author.Tests.{ne-eqb}
 use Rattle.octets.specs.Octets.{number, numberAt}
-use Rattle.log.specs.Entries.{entryOf, logRecordOf}
+use Rattle.log.specs.Entries.{callIn, logRecordOf}
 use Rattle.log.proofs.claims.Statement.{statement}
 use Rattle.log.proofs.claims.Tie as tie
 
 returns : tie.Need-returns
-unfolding entryOf logRecordOf numberAt number
+unfolding callIn logRecordOf numberAt number
 returns c =
     record {
       one-reserve = refl;

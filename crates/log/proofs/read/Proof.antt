@@ -2,7 +2,7 @@
 use mathlib.Core.Path.{ap, _∙_}
 use borrow.Author.Needs.{needs}
 use borrow.Author.Tests.{eq-eqb, ne-eqb}
-use Rattle.log.specs.Entries.{byOperation, entryOf}
+use Rattle.log.specs.Entries.{byOperation, callIn}
 use Rattle.log.proofs.read.Statement.{statement}
 use Rattle.log.proofs.read.Tie as tie
 
@@ -13,14 +13,14 @@ by-operation-requires : tie.Need-by-operation-requires
 by-operation-requires c κs = search needs
 
 returns : tie.Need-returns
-unfolding entryOf
+unfolding callIn
 returns c =
     c .by-operation .ensures
     ∙ ap byOperation (c .before .log-record .ensures)
     ∙ simp (eq-eqb _ _ (c .before .before .if1 .taken))
 
 returns-2 : tie.Need-returns-2
-unfolding entryOf
+unfolding callIn
 returns-2 c = simp (ne-eqb _ _ (c .if1 .left))
 
 pub read-spec : {M : Type 1} → statement M

@@ -1,4 +1,4 @@
--- `moment::take_turn` meets its contract: what is left of whole log records is less than 24 octets. Assumes nothing.
+-- `moment::take_turn` meets its contract: what is left of whole log records is less than 24 octets, and the lines of a part of the buffer have room where those of all of it have. Assumes nothing.
 use native.Mathlib.Omega.{arith}
 use lib.ListN.{length-take}
 use borrow.Author.Needs.{needs}
@@ -47,11 +47,20 @@ add-total c = search needs
 sub-whole : tie.Need-sub-whole
 sub-whole c = search needs
 
+mul-room : tie.Need-mul-room
+mul-room c = search needs
+
 slice-reshare-prefix-replay : tie.Need-slice-reshare-prefix-replay
 slice-reshare-prefix-replay c = search needs
 
 slice-aggregate-replay : tie.Need-slice-aggregate-replay
 slice-aggregate-replay c = simp length-take (omega arith)
+
+slice-relend-prefix-replay : tie.Need-slice-relend-prefix-replay
+slice-relend-prefix-replay c = search needs
+
+slice-aggregate-replay-2 : tie.Need-slice-aggregate-replay-2
+slice-aggregate-replay-2 c = simp length-take (omega arith)
 
 replay-requires : tie.Need-replay-requires
 replay-requires c κs = search needs
@@ -89,8 +98,11 @@ take-turn-spec =
     count-requires
     add-total
     sub-whole
+    mul-room
     slice-reshare-prefix-replay
     slice-aggregate-replay
+    slice-relend-prefix-replay
+    slice-aggregate-replay-2
     replay-requires
     to-front-requires
     same-length-3

@@ -30,7 +30,7 @@ slice-aggregate-finish : tie.Need-slice-aggregate-finish Inv-loop μ-loop
 slice-aggregate-finish c = simp length-take (omega arith)
 
 finish-requires : tie.Need-finish-requires Inv-loop μ-loop
-finish-requires c κs = search needs
+finish-requires c κs = simp length-take (omega arith)
 
 same-length : tie.Need-same-length Inv-loop μ-loop
 same-length c = search needs

@@ -1,4 +1,4 @@
--- `replay::take_turn` meets its contract: what is left of whole log records is less than 24 octets. Assumes nothing.
+-- `replay::take_turn` meets its contract: what is left of whole log records is less than 24 octets, and the lines of a part of the buffer have room where those of all of it have. Assumes nothing.
 use native.Mathlib.Omega.{arith}
 use lib.ListN.{length-take}
 use borrow.Author.Needs.{needs}
@@ -54,7 +54,7 @@ slice-aggregate-show : tie.Need-slice-aggregate-show
 slice-aggregate-show c = simp length-take (omega arith)
 
 show-requires : tie.Need-show-requires
-show-requires c κs = search needs
+show-requires c κs = simp length-take (omega arith)
 
 to-front-requires : tie.Need-to-front-requires
 to-front-requires c κs = search needs

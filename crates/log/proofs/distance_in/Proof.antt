@@ -1,8 +1,8 @@
--- `log::distance_entry` meets its contract: the test asks of the unused fields what `zeros` asks. Assumes nothing.
+-- `log::distance_in` meets its contract: the test asks of the unused fields what `zeros` asks. Assumes nothing.
 use mathlib.Core.Bool.{and-assoc, and-true}
 use borrow.Author.Needs.{needs}
-use Rattle.log.proofs.distance_entry.Statement.{statement}
-use Rattle.log.proofs.distance_entry.Tie as tie
+use Rattle.log.proofs.distance_in.Statement.{statement}
+use Rattle.log.proofs.distance_in.Tie as tie
 
 no-series-requires : tie.Need-no-series-requires
 no-series-requires c κs = search needs
@@ -24,6 +24,6 @@ returns-2 c =
     let h = simp (c .before .before .before .no-series .ensures, and-assoc, and-true) at (c .if1 .left) in
     simp (and-true, h)
 
-pub distance-entry-spec : {M : Type 1} → statement M
-distance-entry-spec =
+pub distance-in-spec : {M : Type 1} → statement M
+distance-in-spec =
     tie.close (tie.spec no-series-requires in-miles-requires miles-requires returns returns-2)

@@ -1,8 +1,8 @@
--- `log::reserve_entry` meets its contract: the test asks of the closing zeros what `zeros` asks. Assumes nothing.
+-- `log::reserve_in` meets its contract: the test asks of the closing zeros what `zeros` asks. Assumes nothing.
 use borrow.Author.Needs.{needs}
 use borrow.Author.Tests.{eq-eqb, ne-eqb}
-use Rattle.log.proofs.reserve_entry.Statement.{statement}
-use Rattle.log.proofs.reserve_entry.Tie as tie
+use Rattle.log.proofs.reserve_in.Statement.{statement}
+use Rattle.log.proofs.reserve_in.Tie as tie
 
 in-miles-requires : tie.Need-in-miles-requires
 in-miles-requires c κs = search needs
@@ -27,6 +27,6 @@ returns c =
 returns-2 : tie.Need-returns-2
 returns-2 c = simp (ne-eqb _ _ (c .if1 .left))
 
-pub reserve-entry-spec : {M : Type 1} → statement M
-reserve-entry-spec =
+pub reserve-in-spec : {M : Type 1} → statement M
+reserve-in-spec =
     tie.close (tie.spec in-miles-requires cast-t4 cast-t5 cast-t6 miles-requires returns returns-2)
