@@ -385,6 +385,7 @@ int main(void)
     expect(is_without(&birch, tenant), "no record is the tenant's");
     expect(birch.now == twin.now && birch.count == twin.count, "clock and count are those without the tenant");
     expect(memcmp(memories[1], memories[3], OCTETS) == 0, "the octets are those without the tenant");
+
     printf("\nNight: the log of Birch's day is replayed on another table\n");
     (void)told("a table, M1 4500", counted(gemthatch_channel_open(&night, memories[4], OCTETS, GEMTHATCH_M1_DEFAULT)), NULL);
     refused_before = day.refused;

@@ -193,6 +193,12 @@ static uint32_t step(const uint8_t *entry)
     return gemthatch_channel_replay_step(&channel, entry, GEMTHATCH_ENTRY_OCTETS);
 }
 
+/* A wipe that has so many octets. */
+static uint32_t wipe_of(size_t octets)
+{
+    return gemthatch_channel_replay_step(&channel, entry_of(GEMTHATCH_OPERATION_WIPE, 0u, 7u, 0u, 0u, 0u), octets);
+}
+
 /* Each operation with the state that its helper forms, and what is no log record. */
 static void log_records(void)
 {
@@ -216,11 +222,11 @@ static void log_records(void)
     REFUSES(step(entry_of(GEMTHATCH_OPERATION_CLOCK, 0u, 0u, 0x01020305u, GEMTHATCH_ENTRY_UNKNOWN, 0u)), ENTRY);
     REFUSES(step(entry_of(GEMTHATCH_OPERATION_CLOCK - 1u, 0u, 0u, 0u, 0u, 0u)), ENTRY);
     REFUSES(step(entry_of(GEMTHATCH_OPERATION_WIPE + 1u, 0u, 0u, 0u, 0u, 0u)), ENTRY);
-    REFUSES(gemthatch_channel_replay_step(&channel, entry_of(GEMTHATCH_OPERATION_WIPE, 0u, 7u, 0u, 0u, 0u), GEMTHATCH_ENTRY_OCTETS - 1u), ENTRY);
-    REFUSES(gemthatch_channel_replay_step(&channel, entry_of(GEMTHATCH_OPERATION_WIPE, 0u, 7u, 0u, 0u, 0u), GEMTHATCH_ENTRY_OCTETS + 1u), ENTRY);
+    REFUSES(wipe_of(GEMTHATCH_ENTRY_OCTETS - 1u), ENTRY);
+    REFUSES(wipe_of(GEMTHATCH_ENTRY_OCTETS + 1u), ENTRY);
     REFUSES(gemthatch_channel_replay_step(&channel, NULL, 0u), ENTRY);
     check(channel.now == 0x01020304u && channel.count == 2u && memcmp(memory, before, sizeof before) == 0, __LINE__);
-    IS(step(entry_of(GEMTHATCH_OPERATION_WIPE, 0u, 7u, 0u, 0u, 0u)), 1u);
+    IS(wipe_of(GEMTHATCH_ENTRY_OCTETS), 1u);
     check(channel.now == 0x01020304u && channel.count == 1u, __LINE__);
     IS(step(entry_of(GEMTHATCH_OPERATION_CLOCK, 0u, 0u, GEMTHATCH_SLOT_MAX, 0u, 0u)), 1u);
     check(channel.now == GEMTHATCH_SLOT_MAX && channel.count == 0u, __LINE__);

@@ -30,7 +30,7 @@ abbrev pub callsTold : List (List ℕ × Said) → List (Call × Said)
 callsTold [] = []
 callsTold (e ∷ es) = byCall (callIn (e .0)) (λ c. (c, e .1) ∷ callsTold es) (callsTold es)
 
--- a replayed log leaves what the same calls made by hand leave, and says the same of each
+-- a replayed log leaves what the same calls made by hand leave, and each of them is answered the same
 abbrev pub ByHand : Type 0
 ByHand =
     (m : Channel) (s : List ℕ)
