@@ -1,18 +1,20 @@
--- Which slots a block holds, and where none of a superframe's does. Assumes nothing.
+-- Which slots a block holds, and which block tells whether one of many holds a slot. Assumes nothing.
 use Prim.Native.Nat.{ℕ, _+_, _-_, _*_, _/_, _≤_, _<_}
-use native.Mathlib.Nat.{mul-le-mul-right, lt-of-mul-lt-mul-right, eq-or-lt-of-le}
+use native.Mathlib.Nat.{mul-le-mul-right, lt-of-mul-lt-mul-right, add-mul, mul-div-le, eq-or-lt-of-le}
 use native.Mathlib.Omega.{arith}
-use mathlib.Core.Path.{_≡_, refl, sym}
+use mathlib.Core.Path.{_≡_, refl}
 use mathlib.Core.Bool.{Bool, true, false, and-eq-true-iff}
 use mathlib.Core.Logic.{⊎-elim}
 use lib.Dec.{leb, ltb}
-use borrow.Author.Tests.{leb-true, leb-false, ltb-true, le-leb, lt-ltb, lt-leb, le-ltb}
+use borrow.Author.Tests.{leb-true, ltb-true, ltb-false, le-leb, lt-ltb, le-ltb}
 use Rattle.series.specs.Series.{someBelow, inBlock}
-use Rattle.series.proofs.SomeBelow.{someBelow-at, someBelow-rest}
+use Rattle.series.specs.Candidate.{lastStarted}
+use Rattle.series.proofs.SomeBelow.{someBelow-at, someBelow-elim, someBelow-one}
+use Rattle.series.proofs.LastStarted.{lastStarted-started, lastStarted-one, lastStarted-last}
 
 -- ---- one block
 
--- a block that started and isn't over holds the slot
+-- a block that has started and isn't over holds the slot
 pub inBlock-true : (from length slot : ℕ) → from ≤ slot → slot < from + length → inBlock from length slot ≡ true
 unfolding inBlock
 inBlock-true from length slot h l = rw (le-leb from slot h, lt-ltb slot (from + length) l)
@@ -24,64 +26,69 @@ inBlock-both from length slot h =
     let p = and-eq-true-iff (leb from slot) (ltb slot (from + length)) .0 h in
     (leb-true from slot (p .0), ltb-true slot (from + length) (p .1))
 
--- a block that starts past the slot does not
-inBlock-past : (from length slot : ℕ) → slot < from → inBlock from length slot ≡ false
+-- a block that has started holds the slot where fewer slots than its length came since
+pub inBlock-since : (from length slot : ℕ) → from ≤ slot → inBlock from length slot ≡ ltb (slot - from) length
 unfolding inBlock
-inBlock-past from length slot h = rw (lt-leb from slot h)
+inBlock-since from length slot h = rw (le-leb from slot h) (go (ltb (slot - from) length) refl)
+  where
+    go : (b : Bool) → ltb (slot - from) length ≡ b → ltb slot (from + length) ≡ b
+    go true e = lt-ltb slot (from + length) (omega (arith, ltb-true (slot - from) length e))
+    go false e = le-ltb slot (from + length) (omega (arith, ltb-false (slot - from) length e))
 
--- nor does one that is over before it
-pub inBlock-over : (from length slot : ℕ) → from + length ≤ slot → inBlock from length slot ≡ false
-unfolding inBlock
-inBlock-over from length slot h = rw (le-leb from slot (omega arith), le-ltb slot (from + length) h)
+-- where a block holds the slot, so does one of the same length that started after it and by the slot
+inBlock-later : (from later length slot : ℕ) → from ≤ later → later ≤ slot → inBlock from length slot ≡ true → inBlock later length slot ≡ true
+inBlock-later from later length slot h l e = inBlock-true later length slot l (omega (arith, inBlock-both from length slot e .1))
 
--- ---- the blocks of a superframe
+-- ---- blocks of one length, a spacing apart
 
 module _ (base spacing length slot : ℕ) where
   -- block j holds the slot
   abbrev pub blockHolds : ℕ → Bool
   blockHolds j = inBlock (base + j * spacing) length slot
 
-  -- starts ascend: those after one that is past the slot are past it too
-  later-past : (j i : ℕ) → slot < base + j * spacing → j ≤ i → blockHolds i ≡ false
-  later-past j i h l =
-      let a : j * spacing ≤ i * spacing = mul-le-mul-right spacing l in
-      inBlock-past (base + i * spacing) length slot (omega arith)
+  -- the last block that has started tells whether one of them holds the slot: none before it ends later
+  pub last-block-tells : (number : ℕ) → 0 < number → base ≤ slot → someBelow number blockHolds ≡ blockHolds (lastStarted (number - 1) spacing (slot - base))
+  last-block-tells number some late =
+      let x = slot - base in
+      let c = lastStarted (number - 1) spacing x in
+      let s = lastStarted-started (number - 1) spacing x in
+      someBelow-one number blockHolds c (omega (arith, lastStarted-one (number - 1) spacing x)) (λ i l h.
+      let b = inBlock-both (base + i * spacing) length slot h in
+      let t = lastStarted-last (number - 1) spacing x i (omega arith) (omega arith) in
+      inBlock-later (base + i * spacing) (base + c * spacing) length slot (omega arith) (omega arith) h)
 
-  -- no block of a superframe that starts past the slot holds it
-  pub none-ahead : (rate : ℕ) → slot < base → someBelow rate blockHolds ≡ false
-  unfolding someBelow
-  none-ahead rate h =
-      someBelow-rest rate blockHolds 0 (omega arith) refl (λ i a b. inBlock-past (base + i * spacing) length slot (omega arith))
+-- ---- superframes
 
-  -- nor of one whose last block is over before it
-  pub none-over : (rate : ℕ) → base + (rate - 1) * spacing + length ≤ slot → someBelow rate blockHolds ≡ false
-  unfolding someBelow
-  none-over rate h =
-      someBelow-rest rate blockHolds 0 (omega arith) refl (λ i a b.
-      let m : i * spacing ≤ (rate - 1) * spacing = mul-le-mul-right spacing (omega arith) in
-      inBlock-over (base + i * spacing) length slot (omega arith))
+module _ (first m1 rate length slot : ℕ) where
+  -- superframe k holds the slot
+  abbrev pub superframeHolds : ℕ → Bool
+  superframeHolds k = someBelow rate (blockHolds (first + k * m1) (m1 / rate) length slot)
 
-  -- a block that is over before the slot is not the last, where the last is not over
-  pub not-last : (rate j : ℕ) → base + j * spacing + length ≤ slot → slot < base + (rate - 1) * spacing + length → (j + 1 < rate) × (0 < spacing)
-  not-last rate j h l =
-      let m : j * spacing < (rate - 1) * spacing = omega arith in
-      let b : j < rate - 1 = lt-of-mul-lt-mul-right spacing m in
-      (omega arith, ⊎-elim (λ (e : 0 ≡ spacing). absurd (zero e m)) (λ (e : 0 < spacing). e) (eq-or-lt-of-le (omega arith)))
+  -- where a superframe holds the slot, so does a later one that has started by it: no block starts after the next superframe does
+  superframe-later : (k later : ℕ) → k < later → first + later * m1 ≤ slot → superframeHolds k ≡ true → superframeHolds later ≡ true
+  superframe-later k later lk started =
+      someBelow-elim rate (blockHolds (first + k * m1) (m1 / rate) length slot) (λ j lj h.
+      let n : (k + 1) * m1 ≤ later * m1 = mul-le-mul-right m1 (omega arith) in
+      let e : (k + 1) * m1 ≡ k * m1 + 1 * m1 = add-mul k 1 m1 in
+      let a : j * (m1 / rate) ≤ rate * (m1 / rate) = mul-le-mul-right (m1 / rate) (omega arith) in
+      let b : rate * (m1 / rate) ≤ m1 = mul-div-le m1 rate in
+      someBelow-at rate (blockHolds (first + later * m1) (m1 / rate) length slot) 0 (omega arith)
+      (inBlock-later (first + k * m1 + j * (m1 / rate)) (first + later * m1 + 0 * (m1 / rate)) length slot (omega arith) (omega arith) h))
+
+  -- the last superframe that has started tells whether one of them holds the slot
+  pub last-superframe-tells : (number : ℕ) → 0 < number → first ≤ slot → someBelow number superframeHolds ≡ superframeHolds (lastStarted (number - 1) m1 (slot - first))
+  last-superframe-tells number some late =
+      let x = slot - first in
+      let c = lastStarted (number - 1) m1 x in
+      let s = lastStarted-started (number - 1) m1 x in
+      someBelow-one number superframeHolds c (omega (arith, lastStarted-one (number - 1) m1 x)) (λ k l h.
+      let t : k * m1 ≤ c * m1 = lastStarted-last (number - 1) m1 x k (omega arith) (begun k h) in
+      ⊎-elim
+      (λ (e : k * m1 ≡ c * m1). rw (← e) h)
+      (λ (e : k * m1 < c * m1). superframe-later k c (lt-of-mul-lt-mul-right m1 e) (omega arith) h)
+      (eq-or-lt-of-le t))
     where
-      zero : 0 ≡ spacing → j * spacing < (rate - 1) * spacing → ⊥
-      zero e m = let z : j * 0 < (rate - 1) * 0 = rw e m in omega arith
-
-  -- the first block that is not over before the slot tells whether one holds it
-  pub first-tells : (rate j : ℕ) → j < rate → someBelow j blockHolds ≡ false → slot < base + j * spacing + length
-      → leb (base + j * spacing) slot ≡ someBelow rate blockHolds
-  first-tells rate j l h e = go (leb (base + j * spacing) slot) refl
-    where
-      go : (b : Bool) → leb (base + j * spacing) slot ≡ b → b ≡ someBelow rate blockHolds
-      go true t =
-          sym (someBelow-at rate blockHolds j l (inBlock-true (base + j * spacing) length slot (leb-true (base + j * spacing) slot t) e))
-      go false t =
-          sym (someBelow-rest rate blockHolds j (omega arith) h (λ i a _. later-past j i (leb-false (base + j * spacing) slot t) a))
-
--- superframe k of a record's numbers holds the slot
-abbrev pub superframeHolds : ℕ → ℕ → ℕ → ℕ → ℕ → ℕ → Bool
-superframeHolds first m1 rate length slot k = someBelow rate (blockHolds (first + k * m1) (m1 / rate) length slot)
+      -- a superframe that holds the slot has started by it
+      begun : (k : ℕ) → superframeHolds k ≡ true → k * m1 ≤ slot - first
+      begun k = someBelow-elim rate (blockHolds (first + k * m1) (m1 / rate) length slot) (λ j _ h.
+          omega (arith, inBlock-both (first + k * m1 + j * (m1 / rate)) length slot h .0))

@@ -1,4 +1,5 @@
 pub mod Cases
 pub mod SomeBelow
+pub mod LastStarted
 pub mod Blocks
 pub mod Series

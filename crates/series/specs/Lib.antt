@@ -1,2 +1,4 @@
 pub mod Series
+pub mod Candidate
+pub mod Steps
 pub mod Claims

@@ -1,8 +1,10 @@
 // The block series of a record: which slots it reserves, and its last one.
 use record::Rec;
 ghost use mathlib.Core.Path.{_≡_};
-ghost use Prim.Native.Nat.{_+_, _-_, _*_, _/_, _≤_, _<_};
-ghost use Rattle.series.specs.Series.{someBelow, inBlock, reserves, lastSlot};
+ghost use Prim.Native.Nat.{_-_, _*_, _/_, _≤_, min};
+ghost use Rattle.series.specs.Series.{reserves, lastSlot};
+ghost use Rattle.series.specs.Candidate.{lastStarted};
+ghost use Rattle.series.specs.Steps.{lessStep};
 ghost use Rattle.series.specs.Claims.{Claims};
 
 fn less_one(x: u64) -> u64
@@ -14,14 +16,13 @@ fn less_one(x: u64) -> u64
     x - 1
 }
 
-// x over d, the remainder dropped; 0 where d is 0, as in the definitions.
-fn quotient(x: u64, d: u64) -> u64
-    ensures { λ r. ⌜ (r ≡ x / d) × (r ≤ x) ⌝ }
+fn lesser(a: u32, b: u32) -> u32
+    ensures { λ r. ⌜ r ≡ min a b ⌝ }
 {
-    if d == 0 {
-        return 0;
+    if a < b {
+        return a;
     }
-    x / d
+    b
 }
 
 // A product that stays small.
@@ -32,64 +33,57 @@ fn times(n: u64, m: u64) -> u64
     n * m
 }
 
-// The slots from the start of a superframe's block 0 to that of its block j.
-fn to_block(j: u64, m1: u64, rate: u64) -> u64
-    requires { ⌜ (j ≤ 255) × (m1 ≤ 4294967295) ⌝ }
-    ensures { λ r. ⌜ (r ≡ j * (m1 / rate)) × (r ≤ 1095216660225) ⌝ }
+// x over d, the remainder dropped; 0 where d is 0, as in the definitions.
+fn quotient(x: u32, d: u32) -> u32
+    ensures { λ r. ⌜ r ≡ x / d ⌝ }
 {
-    times(j, quotient(m1, rate))
+    if d == 0 {
+        return 0;
+    }
+    x / d
 }
 
-// Whether one of a superframe's blocks holds a slot, where the last of them is not over before it.
-// They are tried in turn: the first that is not over tells, as no later one starts before it.
-fn in_blocks(base: u64, spacing: u64, rate: u64, length: u64, slot: u64) -> bool
-    requires { ⌜ (base ≤ 4294967295) × (spacing ≤ 4294967295) × (length ≤ 255) × (slot ≤ 4294967295) ⌝ }
-    requires { ⌜ (0 < rate) × (slot < base + (rate - 1) * spacing + length) ⌝ }
-    ensures { λ b. ⌜ b ≡ someBelow rate (λ j. inBlock (base + j * spacing) length slot) ⌝ }
+// How far x is past the last of the starts 0, step, 2*step .. most*step that is not past it.
+fn since_last(most: u32, step: u32, x: u32) -> u32
+    ensures { λ r. ⌜ r ≡ x - lastStarted most step x * step ⌝ }
 {
-    let mut start = base;
-    while start + length <= slot {
-        start += spacing;
-    }
-    start <= slot
+    let last = lesser(most, quotient(x, step));
+    x - last * step
 }
 
-// The same for any superframe: it is skipped where its last block is over before the slot.
-fn in_superframe(base: u64, spacing: u64, rate: u64, length: u64, slot: u64) -> bool
-    requires { ⌜ (base ≤ 4294967295) × (spacing ≤ 4294967295) × (rate ≤ 255) × (length ≤ 255) × (slot ≤ 4294967295) ⌝ }
-    ensures { λ b. ⌜ b ≡ someBelow rate (λ j. inBlock (base + j * spacing) length slot) ⌝ }
+// x less a step, where one is left and x is not before it.
+fn less_step(left: bool, step: u32, x: u32) -> u32
+    ensures { λ r. ⌜ r ≡ lessStep left step x ⌝ }
 {
-    if rate == 0 {
-        return false;
+    if left & (step <= x) {
+        return x - step;
     }
-    let last = base + times(rate - 1, spacing);
-    if last + length <= slot {
-        return false;
-    }
-    in_blocks(base, spacing, rate, length, slot)
+    x
 }
 
-// Whether a record reserves a slot: its superframes are tried in turn, up to the first that starts past it.
+// As since_last, for superframes: a sound record has three at most, and two steps are quicker than a division.
+fn since_superframe(most: u32, m1: u32, x: u32) -> u32
+    ensures { λ r. ⌜ r ≡ x - lastStarted most m1 x * m1 ⌝ }
+{
+    if most <= 2 {
+        return less_step(1 < most, m1, less_step(0 < most, m1, x));
+    }
+    since_last(most, m1, x)
+}
+
+// Whether a record reserves a slot: the last block that has started by it, in the last superframe that has, tells.
+// An earlier block ends no later, since all have one length.
 pub fn reserves(r: Rec, m1: u32, slot: u32) -> bool
     ensures { λ b. ⌜ b ≡ reserves m1 r slot ⌝ }
 {
-    let m = m1 as u64;
-    let s = slot as u64;
-    let rate = r.rate as u64;
-    let superframes = r.superframes as u64;
-    let length = r.length as u64;
-    let spacing = quotient(m, rate);
-    let mut base = r.first as u64;
-    let mut k = 0;
-    while k < superframes {
-        if s < base {
-            return false;
-        }
-        if in_superframe(base, spacing, rate, length, s) {
-            return true;
-        }
-        base += m;
-        k += 1;
+    let first = r.first;
+    let superframes = r.superframes as u32;
+    let rate = r.rate as u32;
+    let length = r.length as u32;
+    if (0 < superframes) & (0 < rate) & (first <= slot) {
+        let into_superframe = since_superframe(superframes - 1, m1, slot - first);
+        let into_block = since_last(rate - 1, quotient(m1, rate), into_superframe);
+        return into_block < length;
     }
     false
 }
@@ -98,10 +92,10 @@ pub fn reserves(r: Rec, m1: u32, slot: u32) -> bool
 pub fn last_slot(r: Rec, m1: u32) -> u64
     ensures { λ s. ⌜ s ≡ lastSlot m1 r ⌝ }
 {
-    let m = m1 as u64;
-    let rate = r.rate as u64;
-    let superframes = times(less_one(r.superframes as u64), m);
-    let blocks = to_block(less_one(rate), m, rate);
+    let rate = r.rate as u32;
+    let spacing = quotient(m1, rate) as u64;
+    let superframes = times(less_one(r.superframes as u64), m1 as u64);
+    let blocks = times(less_one(rate as u64), spacing);
     less_one(r.first as u64 + superframes + blocks + r.length as u64)
 }
 

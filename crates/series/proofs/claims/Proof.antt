@@ -1,11 +1,20 @@
 -- `series::claims` promises what the laws prove. Assumes nothing.
 use Rattle.series.proofs.Cases.{spacing}
-use Rattle.series.proofs.Series.{last-reserved, none-outside}
+use Rattle.series.proofs.Series.{last-reserved, none-outside, none-in-the-gap, all-where-they-overlap, none-without-blocks, one-block-tells}
 use Rattle.series.proofs.claims.Statement.{statement}
 use Rattle.series.proofs.claims.Tie as tie
 
 returns : tie.Need-returns
-returns c = record { last-reserved = last-reserved; none-outside = none-outside; spacing = spacing }
+returns c =
+    record {
+      last-reserved = last-reserved;
+      none-outside = none-outside;
+      none-in-the-gap = none-in-the-gap;
+      all-where-they-overlap = all-where-they-overlap;
+      none-without-blocks = none-without-blocks;
+      one-block-tells = one-block-tells;
+      spacing = spacing;
+    }
 
 pub claims-spec : {M : Type 1} → statement M
 claims-spec = tie.close (tie.spec returns)

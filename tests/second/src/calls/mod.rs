@@ -13,6 +13,7 @@ mod pair;
 mod replay;
 mod searches;
 mod soundness;
+mod sweep;
 mod tallies;
 mod walks;
 
@@ -52,6 +53,7 @@ pub fn check(report: &mut Report) {
     add("histories of any size", histories::of_any_size);
     add("sound tables", searches::tables);
     add("large sound tables", searches::large);
+    add("every M1 and rate", sweep::check);
     add("demand 3", demand_3::check);
     add("demand 3's premise", demand_3::premise);
     add("the walk", walks::check);
