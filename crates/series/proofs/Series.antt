@@ -32,26 +32,29 @@ module _ (m1 : ℕ) (r : Rec) where
       omega arith
 
   module _ (slot : ℕ) where
-    -- a slot of a block is reserved
-    reserves-at : (k j : ℕ) → k < r .superframes → j < r .rate → start m1 r k j ≤ slot → slot < start m1 r k j + r .length → reserves m1 r slot ≡ true
+    -- block j of superframe k is one of the record's, and holds the slot
+    abbrev Holds : ℕ → ℕ → Type 0
+    Holds k j = (k < r .superframes) × (j < r .rate) × (start m1 r k j ≤ slot) × (slot < start m1 r k j + r .length)
+
+    -- a slot that a block holds is reserved
+    reserves-at : (k j : ℕ) → Holds k j → reserves m1 r slot ≡ true
     unfolding reserves
-    reserves-at k j lk lj h l =
-        someBelow-at (r .superframes) (superframeHolds (r .first) m1 (r .rate) (r .length) slot) k lk
-        (someBelow-at (r .rate) (blockHolds (r .first + k * m1) (m1 / r .rate) (r .length) slot) j lj
-        (inBlock-true (start m1 r k j) (r .length) slot h l))
+    reserves-at k j h =
+        someBelow-at (r .superframes) (superframeHolds (r .first) m1 (r .rate) (r .length) slot) k (h .0)
+        (someBelow-at (r .rate) (blockHolds (r .first + k * m1) (m1 / r .rate) (r .length) slot) j (h .1)
+        (inBlock-true (start m1 r k j) (r .length) slot (h .2) (h .3)))
 
     -- what follows of each block that holds a slot follows of a reserved one
-    reserves-elim : {X : Type 0} → ((k j : ℕ) → k < r .superframes → j < r .rate → start m1 r k j ≤ slot → slot < start m1 r k j + r .length → X)
-        → reserves m1 r slot ≡ true → X
+    reserves-elim : {X : Type 0} → ((k j : ℕ) → Holds k j → X) → reserves m1 r slot ≡ true → X
     unfolding reserves
     reserves-elim f =
         someBelow-elim (r .superframes) (superframeHolds (r .first) m1 (r .rate) (r .length) slot) (λ k lk.
         someBelow-elim (r .rate) (blockHolds (r .first + k * m1) (m1 / r .rate) (r .length) slot) (λ j lj e.
         let b = inBlock-both (start m1 r k j) (r .length) slot e in
-        f k j lk lj (b .0) (b .1)))
+        f k j (lk, lj, b .0, b .1)))
 
     -- a slot that no block holds is not reserved
-    reserves-none : ((k j : ℕ) → k < r .superframes → j < r .rate → start m1 r k j ≤ slot → slot < start m1 r k j + r .length → ⊥) → reserves m1 r slot ≡ false
+    reserves-none : ((k j : ℕ) → Holds k j → ⊥) → reserves m1 r slot ≡ false
     reserves-none f = go (reserves m1 r slot) refl
       where
         go : (b : Bool) → reserves m1 r slot ≡ b → b ≡ false
@@ -62,20 +65,20 @@ module _ (m1 : ℕ) (r : Rec) where
 pub last-reserved : LastReserved
 unfolding lastSlot
 last-reserved m1 r f g l =
-    reserves-at m1 r (lastSlot m1 r) (r .superframes - 1) (r .rate - 1) (omega arith) (omega arith) (omega arith) (omega arith)
+    reserves-at m1 r (lastSlot m1 r) (r .superframes - 1) (r .rate - 1) (omega arith, omega arith, omega arith, omega arith)
 
 -- each slot lies in a block between the first and the last
 pub none-outside : NoneOutside
 unfolding lastSlot
 none-outside m1 r slot =
-    reserves-elim m1 r slot (λ k j lk lj h l.
+    reserves-elim m1 r slot (λ k j h.
     let t = start-ascends m1 r k j (r .superframes - 1) (r .rate - 1) (omega arith) (omega arith) in
     (omega arith, omega arith))
 
 -- a block of a superframe up to it is over, one of a later superframe has not started
 pub none-in-the-gap : NoneInTheGap
 none-in-the-gap m1 r k slot over ahead =
-    reserves-none m1 r slot (λ k′ j _ lj h l.
+    reserves-none m1 r slot (λ k′ j h.
     ⊎-elim
     (λ (e : k′ ≤ k). let t = start-ascends m1 r k′ j k (r .rate - 1) e (omega arith) in omega arith)
     (λ (e : k < k′). let t = start-ascends m1 r (k + 1) 0 k′ j (omega arith) (omega arith) in omega arith)
@@ -92,21 +95,21 @@ all-where-they-overlap m1 r k slot lk some wide h l =
     ⊎-elim
     (λ (z : q ≡ 0).
     let a : (r .rate - 1) * q ≡ 0 = rw (z, mul-zero) in
-    reserves-at m1 r slot k 0 lk some (omega arith) (omega arith))
+    reserves-at m1 r slot k 0 (lk, some, omega arith, omega arith))
     (λ (pos : 0 < q).
     let b : x < x / q * q + q = lt-div-mul-add pos in
-    reserves-at m1 r slot k (x / q) lk (omega arith) (omega arith) (omega arith))
+    reserves-at m1 r slot k (x / q) (lk, omega arith, omega arith, omega arith))
     (eq-zero-or-pos q))
     (λ (e : r .rate - 1 < x / q).
     let a : (r .rate - 1) * q ≤ x / q * q = mul-le-mul-right q (omega arith) in
-    reserves-at m1 r slot k (r .rate - 1) lk (omega arith) (omega arith) l)
+    reserves-at m1 r slot k (r .rate - 1) (lk, omega arith, omega arith, l))
     (le-or-lt (x / q) (r .rate - 1))
 
 -- there is no block to hold a slot
 pub none-without-blocks : NoneWithoutBlocks
-none-without-blocks m1 r slot h =
-    reserves-none m1 r slot (λ k j lk lj s l.
-    ⊎-elim (λ (e : r .superframes ≡ 0). omega arith) (λ h′. ⊎-elim (λ (e : r .rate ≡ 0). omega arith) (λ (e : r .length ≡ 0). omega arith) h′) h)
+none-without-blocks m1 r slot none =
+    reserves-none m1 r slot (λ k j h.
+    ⊎-elim (λ (e : r .superframes ≡ 0). omega arith) (⊎-elim (λ (e : r .rate ≡ 0). omega arith) (λ (e : r .length ≡ 0). omega arith)) none)
 
 -- the last block that has started, of the last superframe that has
 pub one-block-tells : OneBlockTells
@@ -143,5 +146,5 @@ module _ (m1 : ℕ) (r : Rec) (slot : ℕ) where
   -- before that nothing is reserved
   pub not-begun : begun ≡ false → reserves m1 r slot ≡ false
   not-begun h =
-      reserves-none m1 r slot (λ k j lk lj s _.
+      reserves-none m1 r slot (λ k j b.
       false≢true (sym h ∙ rw (lt-ltb 0 (r .superframes) (omega arith), lt-ltb 0 (r .rate) (omega arith), le-leb (r .first) slot (omega arith))))
