@@ -16,13 +16,14 @@ fn less_one(x: u64) -> u64
     x - 1
 }
 
-fn lesser(a: u32, b: u32) -> u32
-    ensures { λ r. ⌜ r ≡ min a b ⌝ }
+// x over d, the remainder dropped; 0 where d is 0, as in the definitions.
+fn quotient(x: u64, d: u64) -> u64
+    ensures { λ r. ⌜ (r ≡ x / d) × (r ≤ x) ⌝ }
 {
-    if a < b {
-        return a;
+    if d == 0 {
+        return 0;
     }
-    b
+    x / d
 }
 
 // A product that stays small.
@@ -33,18 +34,25 @@ fn times(n: u64, m: u64) -> u64
     n * m
 }
 
-// x over d, the remainder dropped; 0 where d is 0, as in the definitions.
-fn quotient(x: u32, d: u32) -> u32
-    ensures { λ r. ⌜ r ≡ x / d ⌝ }
+// The slots from the start of a superframe's block 0 to that of its block j.
+fn to_block(j: u64, m1: u64, rate: u64) -> u64
+    requires { ⌜ (j ≤ 255) × (m1 ≤ 4294967295) ⌝ }
+    ensures { λ r. ⌜ (r ≡ j * (m1 / rate)) × (r ≤ 1095216660225) ⌝ }
 {
-    if d == 0 {
-        return 0;
+    times(j, quotient(m1, rate))
+}
+
+fn lesser(a: u64, b: u64) -> u64
+    ensures { λ r. ⌜ r ≡ min a b ⌝ }
+{
+    if a < b {
+        return a;
     }
-    x / d
+    b
 }
 
 // How far x is past the last of the starts 0, step, 2*step .. most*step that is not past it.
-fn since_last(most: u32, step: u32, x: u32) -> u32
+fn since_last(most: u64, step: u64, x: u64) -> u64
     ensures { λ r. ⌜ r ≡ x - lastStarted most step x * step ⌝ }
 {
     let last = lesser(most, quotient(x, step));
@@ -52,7 +60,7 @@ fn since_last(most: u32, step: u32, x: u32) -> u32
 }
 
 // x less a step, where one is left and x is not before it.
-fn less_step(left: bool, step: u32, x: u32) -> u32
+fn less_step(left: bool, step: u64, x: u64) -> u64
     ensures { λ r. ⌜ r ≡ lessStep left step x ⌝ }
 {
     if left & (step <= x) {
@@ -62,7 +70,7 @@ fn less_step(left: bool, step: u32, x: u32) -> u32
 }
 
 // As since_last, for superframes: a sound record has three at most, and two steps are quicker than a division.
-fn since_superframe(most: u32, m1: u32, x: u32) -> u32
+fn since_superframe(most: u64, m1: u64, x: u64) -> u64
     ensures { λ r. ⌜ r ≡ x - lastStarted most m1 x * m1 ⌝ }
 {
     if most <= 2 {
@@ -76,13 +84,15 @@ fn since_superframe(most: u32, m1: u32, x: u32) -> u32
 pub fn reserves(r: Rec, m1: u32, slot: u32) -> bool
     ensures { λ b. ⌜ b ≡ reserves m1 r slot ⌝ }
 {
-    let first = r.first;
-    let superframes = r.superframes as u32;
-    let rate = r.rate as u32;
-    let length = r.length as u32;
-    if (0 < superframes) & (0 < rate) & (first <= slot) {
-        let into_superframe = since_superframe(superframes - 1, m1, slot - first);
-        let into_block = since_last(rate - 1, quotient(m1, rate), into_superframe);
+    let m = m1 as u64;
+    let s = slot as u64;
+    let first = r.first as u64;
+    let superframes = r.superframes as u64;
+    let rate = r.rate as u64;
+    let length = r.length as u64;
+    if (0 < superframes) & (0 < rate) & (first <= s) {
+        let into_superframe = since_superframe(superframes - 1, m, s - first);
+        let into_block = since_last(rate - 1, quotient(m, rate), into_superframe);
         return into_block < length;
     }
     false
@@ -92,10 +102,10 @@ pub fn reserves(r: Rec, m1: u32, slot: u32) -> bool
 pub fn last_slot(r: Rec, m1: u32) -> u64
     ensures { λ s. ⌜ s ≡ lastSlot m1 r ⌝ }
 {
-    let rate = r.rate as u32;
-    let spacing = quotient(m1, rate) as u64;
-    let superframes = times(less_one(r.superframes as u64), m1 as u64);
-    let blocks = times(less_one(rate as u64), spacing);
+    let m = m1 as u64;
+    let rate = r.rate as u64;
+    let superframes = times(less_one(r.superframes as u64), m);
+    let blocks = to_block(less_one(rate), m, rate);
     less_one(r.first as u64 + superframes + blocks + r.length as u64)
 }
 

@@ -1,3 +1,2 @@
 pub mod Sound
 pub mod Ranges
-pub mod Reciprocals

@@ -10,7 +10,6 @@ ghost use Rattle.codec.specs.Parameters.{m1Row, fits};
 ghost use Rattle.record.specs.Record.{allRecords};
 ghost use Rattle.series.specs.Series.{lastSlot};
 ghost use Rattle.sound.specs.Sound.{sizeFits, numbersFit, inRange, good, sound};
-ghost use Rattle.sound.specs.Steps.{areReciprocals};
 
 // Whether x lies in lo..hi.
 fn in_range(lo: u32, hi: u32, x: u32) -> bool
@@ -22,8 +21,8 @@ fn in_range(lo: u32, hi: u32, x: u32) -> bool
 }
 
 // Whether a record is good. The ranges are tested here, and on widened octets: apart from the sum, or as octets, they become vector code, which is slower.
-fn is_good(r: Rec, m1: u32, time: u32, reciprocals: &[u32; 61]) -> bool
-    requires { ⌜ (m1 ≤ 15360) × (areReciprocals (now reciprocals) ≡ true) ⌝ }
+fn is_good(r: Rec, m1: u32, time: u32) -> bool
+    requires { ⌜ m1 ≤ 15360 ⌝ }
     ensures { λ b. ⌜ b ≡ good m1 time r ⌝ }
 {
     let station = r.station < 134217728;
@@ -33,7 +32,7 @@ fn is_good(r: Rec, m1: u32, time: u32, reciprocals: &[u32; 61]) -> bool
     let length = in_range(1, 32, r.length as u32);
     let far = r.far <= 1;
     if station & first & rate & superframes & length & far {
-        return time <= last_slot(r, m1, reciprocals);
+        return time <= last_slot(r, m1);
     }
     false
 }
@@ -43,11 +42,10 @@ fn all_good(memory: &[u8], n: usize, m1: u32, time: u32) -> bool
     requires { ⌜ m1 ≤ 15360 ⌝ }
     ensures { λ b. ⌜ b ≡ every (good m1 time) (take n (allRecords (now (memory .entry)))) ⌝ }
 {
-    let reciprocals = RECIPROCALS;
     let held = record::held_count(memory, n);
     let mut i = 0;
     while i < held {
-        if !is_good(record::load(memory, i), m1, time, &reciprocals) {
+        if !is_good(record::load(memory, i), m1, time) {
             return false;
         }
         i += 1;
@@ -98,81 +96,14 @@ pub fn is_sound(m1: u32, time: u32, count: u32, memory: &[u8]) -> bool
     false
 }
 
-// ---- a last slot without a division
-
-// At each rate from 1 to 60, 2^31 over the rate, rounded up: a product with it stands for a division by the rate.
-const RECIPROCALS: [u32; 61] = [
-    0,
-    2147483648,
-    1073741824,
-    715827883,
-    536870912,
-    429496730,
-    357913942,
-    306783379,
-    268435456,
-    238609295,
-    214748365,
-    195225787,
-    178956971,
-    165191050,
-    153391690,
-    143165577,
-    134217728,
-    126322568,
-    119304648,
-    113025456,
-    107374183,
-    102261127,
-    97612894,
-    93368855,
-    89478486,
-    85899346,
-    82595525,
-    79536432,
-    76695845,
-    74051161,
-    71582789,
-    69273667,
-    67108864,
-    65075263,
-    63161284,
-    61356676,
-    59652324,
-    58040099,
-    56512728,
-    55063684,
-    53687092,
-    52377650,
-    51130564,
-    49941481,
-    48806447,
-    47721859,
-    46684428,
-    45691142,
-    44739243,
-    43826197,
-    42949673,
-    42107523,
-    41297763,
-    40518560,
-    39768216,
-    39045158,
-    38347923,
-    37675152,
-    37025581,
-    36398028,
-    35791395,
-];
+// ---- a last slot in 32 bits
 
 // m1 over a rate, the remainder dropped.
-fn spacing(m1: u32, rate: u32, reciprocals: &[u32; 61]) -> u32
-    requires { ⌜ (m1 ≤ 15360) × (1 ≤ rate) × (rate ≤ 60) × (areReciprocals (now reciprocals) ≡ true) ⌝ }
+fn spacing(m1: u32, rate: u32) -> u32
+    requires { ⌜ (m1 ≤ 15360) × (1 ≤ rate) ⌝ }
     ensures { λ r. ⌜ (r ≡ m1 / rate) × (r ≤ 15360) ⌝ }
 {
-    let i = rate as usize;
-    let x = reciprocals[i];
-    ((m1 as u64) * (x as u64) / 2147483648) as u32
+    m1 / rate
 }
 
 // A product that stays small.
@@ -183,13 +114,13 @@ fn times(n: u32, m: u32) -> u32
     n * m
 }
 
-// As series::last_slot, for a record in range: 32 bits are enough, and nothing is divided.
-fn last_slot(r: Rec, m1: u32, reciprocals: &[u32; 61]) -> u32
-    requires { ⌜ (inRange r ≡ true) × (m1 ≤ 15360) × (areReciprocals (now reciprocals) ≡ true) ⌝ }
+// As series::last_slot, for a record in range: 32 bits are enough.
+fn last_slot(r: Rec, m1: u32) -> u32
+    requires { ⌜ (inRange r ≡ true) × (m1 ≤ 15360) ⌝ }
     ensures { λ s. ⌜ s ≡ lastSlot m1 r ⌝ }
 {
     let rate = r.rate as u32;
     let superframes = times(r.superframes as u32 - 1, m1);
-    let blocks = times(rate - 1, spacing(m1, rate, reciprocals));
+    let blocks = times(rate - 1, spacing(m1, rate));
     r.first + superframes + blocks + r.length as u32 - 1
 }

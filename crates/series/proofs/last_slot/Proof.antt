@@ -7,12 +7,6 @@ use Rattle.series.proofs.last_slot.Tie as tie
 cast-rate : tie.Need-cast-rate
 cast-rate c = search needs
 
-quotient-requires : tie.Need-quotient-requires
-quotient-requires c κs = search needs
-
-cast-spacing : tie.Need-cast-spacing
-cast-spacing c = search needs
-
 cast-less-one : tie.Need-cast-less-one
 cast-less-one c = search needs
 
@@ -22,17 +16,14 @@ less-one-requires c κs = search needs
 times-requires : tie.Need-times-requires
 times-requires c κs = search needs
 
-cast-less-one-2 : tie.Need-cast-less-one-2
-cast-less-one-2 c = search needs
-
 less-one-requires-2 : tie.Need-less-one-requires-2
 less-one-requires-2 c κs = search needs
 
-times-requires-2 : tie.Need-times-requires-2
-times-requires-2 c κs = search needs
+to-block-requires : tie.Need-to-block-requires
+to-block-requires c κs = search needs
 
-cast-less-one-3 : tie.Need-cast-less-one-3
-cast-less-one-3 c = search needs
+cast-less-one-2 : tie.Need-cast-less-one-2
+cast-less-one-2 c = search needs
 
 add-less-one : tie.Need-add-less-one
 add-less-one c = search needs
@@ -40,8 +31,8 @@ add-less-one c = search needs
 add-less-one-2 : tie.Need-add-less-one-2
 add-less-one-2 c = search needs
 
-cast-less-one-4 : tie.Need-cast-less-one-4
-cast-less-one-4 c = search needs
+cast-less-one-3 : tie.Need-cast-less-one-3
+cast-less-one-3 c = search needs
 
 add-less-one-3 : tie.Need-add-less-one-3
 add-less-one-3 c = search needs
@@ -58,18 +49,15 @@ last-slot-spec =
     tie.close
     (tie.spec
     cast-rate
-    quotient-requires
-    cast-spacing
     cast-less-one
     less-one-requires
     times-requires
-    cast-less-one-2
     less-one-requires-2
-    times-requires-2
-    cast-less-one-3
+    to-block-requires
+    cast-less-one-2
     add-less-one
     add-less-one-2
-    cast-less-one-4
+    cast-less-one-3
     add-less-one-3
     less-one-requires-3
     returns)

@@ -8,10 +8,13 @@ use Rattle.series.proofs.reserves.Statement.{statement}
 use Rattle.series.proofs.reserves.Tie as tie
 
 -- there are blocks, and the first has started
-started : (c : tie.Then1) → let a = c .before .before .before .before .args in (0 < a .r .superframes) × (0 < a .r .rate) × (a .r .first ≤ a .slot)
+started : (c : tie.Then1) → let a = c .before .before .before .before .before .args in (0 < a .r .superframes) × (0 < a .r .rate) × (a .r .first ≤ a .slot)
 started c =
-    let a = c .before .before .before .before .args in
+    let a = c .before .before .before .before .before .args in
     begun-each (a .m1) (a .r) (a .slot) (c .if1 .taken)
+
+cast-first : tie.Need-cast-first
+cast-first c = search needs
 
 cast-superframes : tie.Need-cast-superframes
 cast-superframes c = search needs
@@ -43,19 +46,20 @@ since-last-requires c κs = search needs
 returns : tie.Need-returns
 returns c =
     let s = c .before .before .before in
-    let a = s .before .before .before .before .args in
-    rw (c .since-last .ensures, c .before .quotient .ensures, c .before .before .since-superframe .ensures)
+    let a = s .before .before .before .before .before .args in
+    rw (c .since-last .ensures, c .before .quotient .ensures .0, c .before .before .since-superframe .ensures)
     (begun-tells (a .m1) (a .r) (a .slot) (s .if1 .taken))
 
 returns-2 : tie.Need-returns-2
 returns-2 c =
-    let a = c .before .before .before .before .args in
+    let a = c .before .before .before .before .before .args in
     sym (not-begun (a .m1) (a .r) (a .slot) (c .if1 .left))
 
 pub reserves-spec : {M : Type 1} → statement M
 reserves-spec =
     tie.close
     (tie.spec
+    cast-first
     cast-superframes
     cast-rate
     cast-length

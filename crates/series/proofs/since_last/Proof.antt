@@ -11,7 +11,7 @@ use Rattle.series.proofs.since_last.Tie as tie
 -- the place of the last start
 last : (c : tie.After-lesser) → let a = c .before .before .args in c .lesser .result ≡ lastStarted (a .most) (a .step) (a .x)
 unfolding lastStarted
-last c = rw (← c .before .quotient .ensures) (c .lesser .ensures)
+last c = rw (← c .before .quotient .ensures .0) (c .lesser .ensures)
 
 -- it is not past x
 started : (c : tie.After-lesser) → let a = c .before .before .args in c .lesser .result * a .step ≤ a .x

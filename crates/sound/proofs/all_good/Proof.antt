@@ -1,6 +1,6 @@
 -- `sound::all_good` meets its contract: the records still to come say the same as the whole. Assumes nothing.
 use Prim.Native.Nat.{_-_}
-use mathlib.Core.Path.{_≡_, refl}
+use mathlib.Core.Path.{_≡_}
 use native.Mathlib.Omega.{arith}
 use borrow.Author.Needs.{needs}
 use borrow.Author.Tests.{not-true, not-false}
@@ -8,18 +8,16 @@ use denote.Ref.{now}
 use lib.ListN.{take}
 use Rattle.octets.specs.Lists.{every}
 use Rattle.record.specs.Record.{allRecords}
-use Rattle.series.specs.Series.{someBelow}
 use Rattle.sound.specs.Sound.{good}
-use Rattle.sound.specs.Steps.{areReciprocals}
 use Rattle.record.proofs.ToCome.{toCome, toCome-next, toCome-none}
 use Rattle.sound.proofs.all_good.Statement.{statement}
 use Rattle.sound.proofs.all_good.Tie as tie
 
 abbrev Inv-loop : tie.InvT-loop
-Inv-loop memory n m1 time reciprocals held i₀ i = every (good m1 time) (take n (allRecords memory)) ≡ every (good m1 time) (toCome i held memory)
+Inv-loop memory n m1 time held i₀ i = every (good m1 time) (take n (allRecords memory)) ≡ every (good m1 time) (toCome i held memory)
 
 abbrev μ-loop : tie.MeasureT-loop
-μ-loop memory n m1 time reciprocals held i₀ i = held - i
+μ-loop memory n m1 time held i₀ i = held - i
 
 held-count-requires : tie.Need-held-count-requires Inv-loop μ-loop
 held-count-requires c κs = search needs
@@ -31,18 +29,17 @@ load-requires : tie.Need-load-requires Inv-loop μ-loop
 load-requires c κs = search needs
 
 is-good-requires : tie.Need-is-good-requires Inv-loop μ-loop
-unfolding areReciprocals someBelow
-is-good-requires c κs = (search needs, refl)
+is-good-requires c κs = search needs
 
 returns : tie.Need-returns Inv-loop μ-loop
 returns c =
-    let h = c .before .before .before .before .before in
+    let h = c .before .before .before .before in
     let s = h .before .before .before in
     let n = h .before .held-count in
     rw (
       h .loop .inv,
-      toCome-next (h .loop .i) (n .result) (now (s .args .memory)) (c .before .before .before .before .loop-test .taken) (n .ensures .1),
-      ← c .before .before .before .load .ensures,
+      toCome-next (h .loop .i) (n .result) (now (s .args .memory)) (c .before .before .before .loop-test .taken) (n .ensures .1),
+      ← c .before .before .load .ensures,
       ← c .before .is-good .ensures,
       not-true (c .before .is-good .result) (c .if1 .taken),
     )
@@ -55,13 +52,13 @@ loop-less c = omega arith
 
 loop-again : tie.Need-loop-again Inv-loop μ-loop
 loop-again c =
-    let h = c .before .before .before .before .before in
+    let h = c .before .before .before .before in
     let s = h .before .before .before in
     let n = h .before .held-count in
     rw (
       h .loop .inv,
-      toCome-next (h .loop .i) (n .result) (now (s .args .memory)) (c .before .before .before .before .loop-test .taken) (n .ensures .1),
-      ← c .before .before .before .load .ensures,
+      toCome-next (h .loop .i) (n .result) (now (s .args .memory)) (c .before .before .before .loop-test .taken) (n .ensures .1),
+      ← c .before .before .load .ensures,
       ← c .before .is-good .ensures,
       not-false (c .before .is-good .result) (c .if1 .left),
     )

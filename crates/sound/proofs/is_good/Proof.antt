@@ -29,7 +29,7 @@ unfolding inRange
 last-slot-requires c κs =
     let s = c .before .before .before .before .before .before .before .before .before .before in
     let h : inRange (s .args .r) ≡ true = cc (c .if1 .taken) in
-    (h, s .pre .0, s .pre .1)
+    (h, s .pre)
 
 returns : tie.Need-returns
 unfolding inRange lasts

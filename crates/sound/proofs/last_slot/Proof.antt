@@ -29,7 +29,7 @@ spacing-requires : tie.Need-spacing-requires
 spacing-requires c κs =
     let s = c .before .before .before in
     let k = in-ranges s in
-    (s .pre .1, k .rate .0, k .rate .1, s .pre .2)
+    (s .pre .1, k .rate .0)
 
 times-requires-2 : tie.Need-times-requires-2
 times-requires-2 c κs = (omega (arith, in-ranges (c .before .before .before .before)), c .spacing .ensures .1)
