@@ -57,7 +57,7 @@ lastStarted-step most step x = go (leb step x) refl
     go false e = let z : x / step ≡ 0 = div-eq-of-lt (leb-false step x e) in rw (z, min-zero, min-zero) (omega arith)
 
 -- with none left, as far as x is
-lastStarted-none : (step x : ℕ) → x ≡ x - lastStarted 0 step x * step
+pub lastStarted-none : (step x : ℕ) → x ≡ x - lastStarted 0 step x * step
 unfolding lastStarted
 lastStarted-none step x = let z : min 0 (x / step) ≡ 0 = omega arith in rw z (omega arith)
 

@@ -51,10 +51,13 @@ fn lesser(a: u64, b: u64) -> u64
     b
 }
 
-// How far x is past the last of the starts 0, step, 2*step .. most*step that is not past it.
+// How far x is past the last of the starts 0, step, 2*step .. most*step that is not past it. Where there is but one, nothing is divided.
 fn since_last(most: u64, step: u64, x: u64) -> u64
     ensures { λ r. ⌜ r ≡ x - lastStarted most step x * step ⌝ }
 {
+    if most == 0 {
+        return x;
+    }
     let last = lesser(most, quotient(x, step));
     x - last * step
 }

@@ -159,10 +159,16 @@ fn any_distance(draw: &mut Draw) -> Distance {
 
 const LIMIT: f64 = 150.0;
 
+/// Full tables of each kind, and as many records in all of smaller ones, up to
+/// a number of tables. With a quarter of them the processor learns the branches
+/// that go by the records by heart, and the time is none that a host would see.
+const TABLES: usize = 64;
+const MOST_TABLES: usize = 64 * BATCH;
+
 /// Many inputs, each from a table of its own.
 fn inputs<A>(setting: Setting, asked: impl Fn(Table, &mut Draw) -> Input<A>) -> Vec<Input<A>> {
     let mut draw = Draw::from_seed(u64::from(setting.m1));
-    let tables = (16 * FULL / setting.capacity).min(16 * BATCH);
+    let tables = (TABLES * FULL / setting.capacity).min(MOST_TABLES);
     (0..tables)
         .map(|_| asked(Table::full(setting, &mut draw), &mut draw))
         .collect()
