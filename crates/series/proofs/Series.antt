@@ -9,7 +9,7 @@ use lib.Dec.{leb, ltb}
 use borrow.Author.Tests.{leb-true, leb-false, ltb-true, le-leb, lt-ltb}
 use Rattle.record.specs.declared.Rec.{Rec}
 use Rattle.series.specs.Series.{start, reserves, lastSlot}
-use Rattle.series.specs.Candidate.{lastStarted, superframeBy, blockBy}
+use Rattle.series.specs.Candidate.{superframeBy, blockBy}
 use Rattle.series.specs.Claims.{LastReserved, NoneOutside, NoneInTheGap, AllWhereTheyOverlap, NoneWithoutBlocks, OneBlockTells}
 use Rattle.series.proofs.SomeBelow.{someBelow-at, someBelow-elim}
 use Rattle.series.proofs.LastStarted.{lastStarted-started}

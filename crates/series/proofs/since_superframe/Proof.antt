@@ -1,5 +1,4 @@
 -- `series::since_superframe` meets its contract: two steps are all that there are, where there are two at most. Assumes nothing.
-use mathlib.Core.Path.{_∙_}
 use borrow.Author.Needs.{needs}
 use Rattle.series.proofs.LastStarted.{lastStarted-two}
 use Rattle.series.proofs.since_superframe.Statement.{statement}
