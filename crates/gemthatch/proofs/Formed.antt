@@ -20,13 +20,13 @@ use Rattle.distance.specs.Distances.{isFar}
 use Rattle.sound.specs.Sound.{Channel, records, lasts, sound}
 use Rattle.sound.proofs.Sound.{SoundParts, sound-parts}
 use Rattle.table.specs.declared.State.{State}
-use Rattle.table.specs.declared.Slot.{Slot}
-use Rattle.table.specs.declared.Slot.the-variants.{Free, Reusable, Taken}
-use Rattle.table.specs.declared.SlotAnswer.{SlotAnswer}
-use Rattle.table.specs.declared.SlotAnswer.the-variants.{Is, Refused}
+use Rattle.slots.specs.declared.Slot.{Slot}
+use Rattle.slots.specs.declared.Slot.the-variants.{Free, Reusable, Taken}
+use Rattle.slots.specs.declared.SlotAnswer.{SlotAnswer}
+use Rattle.slots.specs.declared.SlotAnswer.the-variants.{Is, Refused}
 use Rattle.table.specs.Table.{Call, clock, reserve, distance, wipe, look, isLook, newRecord, farOctet, ownedBy, setFar, changed, reported}
 use Rattle.table.specs.Memory.{channel, stateOf, tableOf, channelOf, callRefusal, leaves, says, returned, openRefusal, openLeaves, openReturned}
-use Rattle.table.specs.Slots.{slotAnswer, stateNumber, slotSaid}
+use Rattle.slots.specs.Slots.{slotAnswer, stateNumber, slotSaid}
 use Rattle.table.proofs.Calls.{callRefusal-unsound, refused-gives, accepted-gives}
 use Rattle.table.proofs.Memory.{length-kept}
 use Rattle.log.specs.declared.LoggedCall.{LoggedCall}

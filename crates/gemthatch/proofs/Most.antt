@@ -11,12 +11,12 @@ use Rattle.codec.specs.declared.Lookup.{Lookup}
 use Rattle.codec.specs.Rates.{rateTests, rateLookup, refusedLookup}
 use Rattle.codec.specs.Parameters.{m1Row, fits, parameterTests}
 use Rattle.sound.specs.Sound.{Channel, records, sizeFits, sound}
-use Rattle.table.specs.declared.SlotAnswer.{SlotAnswer}
-use Rattle.table.specs.declared.SlotAnswer.the-variants.{Is, Refused}
+use Rattle.slots.specs.declared.SlotAnswer.{SlotAnswer}
+use Rattle.slots.specs.declared.SlotAnswer.the-variants.{Is, Refused}
 use Rattle.table.specs.Table.{Call, clock, reserve, distance, wipe, look, isLook, callTests, timeTests}
 use Rattle.table.specs.declared.Answer.{Answer}
 use Rattle.table.specs.Memory.{tableOf, callRefusal, says, returned, openRefusal}
-use Rattle.table.specs.Slots.{slotState, slotRefusal, slotAnswer, slotSaid}
+use Rattle.slots.specs.Slots.{slotState, slotRefusal, slotAnswer, slotSaid}
 use Rattle.log.specs.declared.LoggedCall.{LoggedCall}
 use Rattle.log.specs.declared.LoggedCall.the-variants.{Clock, Reserve, SetDistance, Wipe, NoCall}
 use Rattle.log.specs.Entries.{byCall, callIn, entrySays, entryReturned}

@@ -10,7 +10,7 @@ use Rattle.sound.specs.Sound.{Channel}
 use Rattle.table.specs.declared.State.{State}
 use Rattle.table.specs.Table.{Call, clock, reserve, distance, wipe, look, isLook}
 use Rattle.table.specs.Memory.{channel, says, returned, openRefusal, openReturned}
-use Rattle.table.specs.Slots.{slotAnswer, slotSaid}
+use Rattle.slots.specs.Slots.{slotAnswer, slotSaid}
 use Rattle.log.specs.Entries.{logRecordOf, entrySays, entryReturned}
 use Rattle.search.specs.declared.Query.{Query}
 use Rattle.search.specs.Search.{searched, picked}

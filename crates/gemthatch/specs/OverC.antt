@@ -17,7 +17,7 @@ use Rattle.sound.specs.Sound.{Channel}
 use Rattle.table.specs.declared.Request.{Request}
 use Rattle.table.specs.Table.{Call}
 use Rattle.table.specs.Memory.{channel, says}
-use Rattle.table.specs.Slots.{slotAnswer, slotSaid}
+use Rattle.slots.specs.Slots.{slotAnswer, slotSaid}
 use Rattle.log.specs.Entries.{entrySays}
 use Rattle.walk.specs.declared.Handed.{Handed}
 use Rattle.walk.specs.declared.Handed.the-variants.{One, NoMore}

@@ -8,8 +8,8 @@ use record::Rec;
 use search::Found;
 use search::Query;
 use table::Request;
-use table::Slot;
-use table::SlotAnswer;
+use slots::Slot;
+use slots::SlotAnswer;
 use table::State;
 use tally::Tally;
 use walk::Handed;
@@ -26,7 +26,7 @@ ghost use Rattle.tally.specs.Calls.{counted};
 ghost use Rattle.distance.specs.Distances.{distanceOf};
 ghost use Rattle.table.specs.Table.{clock, reserve, distance, wipe};
 ghost use Rattle.table.specs.Memory.{channel, leaves, openRefusal, openLeaves};
-ghost use Rattle.table.specs.Slots.{stateNumber};
+ghost use Rattle.slots.specs.Slots.{stateNumber};
 ghost use Rattle.log.specs.Entries.{entryLeaves};
 ghost use Rattle.search.specs.Search.{found, searched, picked};
 ghost use Rattle.gemthatch.specs.OverC.{largestRefusal, overC, hostBlock, hostReading, destinationFrom, blockFrom, lent, request, query, callNumber, entryNumber, slotNumber, searchNumber, inOctets, searchList, placeAt};
@@ -382,7 +382,7 @@ pub extern "C" fn gemthatch_slot_state(
         now: time,
         count,
     };
-    match table::slot_state(s, memory, slot) {
+    match slots::slot_state(s, memory, slot) {
         SlotAnswer::Is(x) => state_number(x),
         SlotAnswer::Refused(n) => over_c(n, 0),
     }

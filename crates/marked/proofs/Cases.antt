@@ -10,16 +10,15 @@ use Rattle.series.specs.Series.{someBelow, inBlock, reserves, lastSlot}
 use Rattle.sound.specs.Sound.{Channel, records, lasts}
 use Rattle.table.specs.Table.{Table, clock}
 use Rattle.table.specs.Memory.{channelOf, leaves, says}
-use Rattle.table.specs.Slots.{stateBy, slotState, slotAnswer, slotOn}
+use Rattle.slots.specs.Slots.{stateBy, slotState, slotAnswer, slotOn}
 use Rattle.trace.specs.Machine.{runs}
 use Rattle.trace.specs.Records.{Sound, leftOn, saidOn, onRecords}
 use Rattle.trace.proofs.Machine.{runs-good}
 use Rattle.trace.proofs.Written.{records-channelOf, leaves-records, refined, empty, roomForOne-sound, roomForOne-runs}
-use Rattle.trace.proofs.Looks.{slotAnswer-channelOf}
 use Rattle.search.specs.declared.Query.{Query}
 use Rattle.search.specs.Search.{level0, level1, qualifying, listed, statesOf, searchTests, searchRefusal, found}
 use Rattle.marked.specs.Marked.{callsT, tableT, Marked}
-use Rattle.marked.proofs.Searches.{searchRefusal-channelOf, found-channelOf}
+use Rattle.marked.proofs.Searches.{slotAnswer-channelOf, searchRefusal-channelOf, found-channelOf}
 
 -- ---- T's table over records
 

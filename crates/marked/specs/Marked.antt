@@ -15,11 +15,11 @@ use Rattle.record.specs.Record.{packed}
 use Rattle.record.specs.declared.Rec.{Rec}
 use Rattle.series.specs.Series.{lastSlot}
 use Rattle.sound.specs.Sound.{Channel, records}
-use Rattle.table.specs.declared.Slot.the-variants.{Free, Taken}
-use Rattle.table.specs.declared.SlotAnswer.the-variants.{Is}
+use Rattle.slots.specs.declared.Slot.the-variants.{Free, Taken}
+use Rattle.slots.specs.declared.SlotAnswer.the-variants.{Is}
 use Rattle.table.specs.Table.{Call, clock, reserve}
 use Rattle.table.specs.Memory.{leaves, says, opened}
-use Rattle.table.specs.Slots.{slotAnswer}
+use Rattle.slots.specs.Slots.{slotAnswer}
 use Rattle.trace.specs.Machine.{runs}
 use Rattle.trace.specs.Sequences.{onOctets}
 use Rattle.search.specs.declared.Query.{Query}

@@ -5,8 +5,8 @@ use distance::Offset;
 use libc::STDOUT_FILENO;
 use search::Query;
 use table::Request;
-use table::Slot;
-use table::SlotAnswer;
+use slots::Slot;
+use slots::SlotAnswer;
 use table::State;
 ghost use Prim.Native.Nat.{_≤_};
 ghost use Rattle.marked.specs.Marked.{Marked};
@@ -56,7 +56,7 @@ fn put_state(x: Slot) {
 }
 
 fn put_slot(s: State, memory: &[u8], slot: u32) {
-    match table::slot_state(s, memory, slot) {
+    match slots::slot_state(s, memory, slot) {
         SlotAnswer::Is(x) => put_state(x),
         SlotAnswer::Refused(n) => put_refused(n),
     }
@@ -254,7 +254,7 @@ fn request_blocks(rate: u32, bs: u32, length: u32) -> Request {
 }
 
 fn is_held(s: State, memory: &[u8], slot: u32) -> bool {
-    match table::judge(s, memory, slot) {
+    match slots::judge(s, memory, slot) {
         Slot::Free => false,
         _ => true,
     }

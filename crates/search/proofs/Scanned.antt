@@ -9,7 +9,7 @@ use lib.ListN.{length as len, take}
 use Rattle.octets.specs.Lists.{keep, from}
 use Rattle.octets.specs.Octets.{holdsOnly}
 use Rattle.octets.proofs.Lists.{keep-from-next}
-use Rattle.table.specs.declared.Slot.{Slot}
+use Rattle.slots.specs.declared.Slot.{Slot}
 use Rattle.search.specs.declared.Query.{Query}
 use Rattle.search.specs.declared.Streaks.{Streaks}
 use Rattle.search.specs.Search.{level0, level1, listed}

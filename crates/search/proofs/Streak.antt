@@ -8,7 +8,7 @@ use mathlib.Core.Bool.{Bool, true, false, cond, not, _&&_, and-true, and-false}
 use lib.Dec.{leb, leb·zero, leb·suc-zero, leb·suc-suc}
 use Rattle.octets.specs.Lists.{every, from}
 use Rattle.octets.proofs.Lists.{every-not, every-from-next}
-use Rattle.table.specs.declared.Slot.{Slot}
+use Rattle.slots.specs.declared.Slot.{Slot}
 use Rattle.search.specs.declared.Streaks.{Streaks}
 use Rattle.search.specs.Search.{isFree, isTaken, level0, level1}
 use Rattle.search.specs.Steps.{streak, streaks, further}

@@ -4,7 +4,7 @@ use mathlib.Core.Bool.{Bool, cond, not, _&&_}
 use mathlib.Core.List.{List}
 use lib.Dec.{ltb}
 use lib.ListN.{set}
-use Rattle.table.specs.declared.Slot.{Slot}
+use Rattle.slots.specs.declared.Slot.{Slot}
 use Rattle.search.specs.declared.Query.{Query}
 use Rattle.search.specs.declared.Streaks.{Streaks}
 use Rattle.search.specs.Search.{isFree, isTaken}

@@ -1,5 +1,5 @@
 // The search for blocks of slots that may be used, over the slot state's promise; and pick.
-use table::Slot;
+use slots::Slot;
 use table::State;
 ghost use mathlib.Core.Path.{_≡_};
 ghost use mathlib.Core.List.{[], _++_};
@@ -113,7 +113,7 @@ fn warm_up(s: State, memory: &[u8], lo: u32, n: u32) -> Streaks
     };
     let mut i = 0;
     while i < n {
-        r = lengthen(r, table::judge(s, memory, lo + i));
+        r = lengthen(r, slots::judge(s, memory, lo + i));
         i += 1;
     }
     r
@@ -165,7 +165,7 @@ fn scan(s: State, memory: &[u8], q: Query, list: &mut [u32], later: &mut [u32]) 
     let mut n = 0;
     let mut kept = 0;
     while start <= q.hi {
-        r = lengthen(r, table::judge(s, memory, start + last));
+        r = lengthen(r, slots::judge(s, memory, start + last));
         let free = length <= r.free;
         n = push(list, n, most, start, free);
         kept = push(later, kept, most, start, !free & (length <= r.untaken));

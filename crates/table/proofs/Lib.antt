@@ -1,5 +1,4 @@
 pub mod Memory
 pub mod Calls
 pub mod Loops
-pub mod Slots
 pub mod Looks

@@ -1,4 +1,3 @@
 pub mod Table
 pub mod Memory
-pub mod Slots
 pub mod Steps

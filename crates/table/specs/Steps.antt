@@ -7,14 +7,12 @@ use Rattle.octets.specs.Lists.{keep}
 use Rattle.octets.specs.Refusals.{firstOf, answer}
 use Rattle.record.specs.Record.{blank, capacity, packed}
 use Rattle.record.specs.declared.Rec.{Rec}
-use Rattle.series.specs.Series.{reserves}
 use Rattle.sound.specs.Sound.{Channel, records, lasts}
 use Rattle.table.specs.declared.Stay.{Stay}
 use Rattle.table.specs.declared.State.{State}
 use Rattle.table.specs.declared.Answer.{Answer}
 use Rattle.table.specs.Table.{ownedBy, heldTests}
 use Rattle.table.specs.Memory.{stateOf, tableOf}
-use Rattle.table.specs.Slots.{recordFar}
 
 -- a record of any station, or of another one only, that is not over at a slot
 unfoldable pub stays : Stay → Rec → Bool
@@ -49,7 +47,3 @@ added m x =
 -- and the memory then
 unfoldable pub addedMemory : Channel → Rec → List ℕ
 addedMemory m x = answer (firstOf (heldTests (tableOf m) x)) (packed (capacity (m .memory)) (records m ++ (x ∷ []))) (λ _. m .memory)
-
--- a record that reserves a slot, but for a far one where `any` says that far ones do already
-unfoldable pub holdsMore : ℕ → ℕ → Bool → Rec → Bool
-holdsMore m1 slot any r = not (any && recordFar r) && reserves m1 r slot

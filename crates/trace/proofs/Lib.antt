@@ -3,5 +3,4 @@ pub mod Kept
 pub mod Written
 pub mod Simulation
 pub mod Demand3
-pub mod Looks
 pub mod Premise

@@ -14,7 +14,6 @@ use Rattle.table.specs.declared.Answer.{Answer}
 use Rattle.table.specs.declared.Request.{Request}
 use Rattle.table.specs.Table.{Table, Call, reserve, wipe, look, callTests}
 use Rattle.table.specs.Memory.{channel, tableOf, channelOf, leaves, says, Gives, openRefusal, opened, OpenGives}
-use Rattle.table.specs.Slots.{slotAnswer, slotSaid, slotLook}
 use Rattle.trace.specs.Machine.{runs, Refines}
 use Rattle.trace.specs.Sequences.{onOctets, Called, only, without, WithoutTrace, MadeWithoutTrace}
 use Rattle.trace.specs.Records.{Sound, onRecords}
@@ -72,10 +71,6 @@ OneResult =
     (s : State) (b : List ℕ) (c : Call) (r q : Answer) (x y : List ℕ)
     → Gives (channel s b) c r x → Gives (channel s b) c q y → (r ≡ q) × (x ≡ y)
 
--- the slot state answers as the call `look` that stands for it in a sequence
-abbrev pub SlotStateLooks : Type 0
-SlotStateLooks = (m : Channel) (slot : ℕ) → slotSaid (slotAnswer m slot) ≡ says m (look (slotLook slot))
-
 -- ---- why demand 3 has its premise
 
 -- what a station asks for
@@ -107,5 +102,4 @@ pub record Claims : Type 0 where
   pub never-unsound : NeverUnsound
   pub refused-changes-nothing : RefusedChangesNothing
   pub one-result : OneResult
-  pub slot-state-looks : SlotStateLooks
   pub premise-needed : PremiseNeeded

@@ -4,8 +4,8 @@ use denote.Ref.{now}
 use borrow.Author.Needs.{needs}
 use Rattle.octets.specs.Refusals.{answer}
 use Rattle.sound.specs.Sound.{Channel}
-use Rattle.table.specs.declared.SlotAnswer.{SlotAnswer}
-use Rattle.table.specs.Slots.{slotSaid}
+use Rattle.slots.specs.declared.SlotAnswer.{SlotAnswer}
+use Rattle.slots.specs.Slots.{slotSaid}
 use Rattle.gemthatch.specs.OverC.{overC, lent, slotNumber}
 use Rattle.gemthatch.proofs.Most.{slot-most}
 use Rattle.gemthatch.proofs.gemthatch_slot_state.Statement.{statement}

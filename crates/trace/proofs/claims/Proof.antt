@@ -1,7 +1,6 @@
 -- `trace::claims` promises what the laws prove. Assumes nothing.
 use Rattle.trace.proofs.Written.{read-back, written-back, refined}
 use Rattle.trace.proofs.Demand3.{wiped-without-trace, real-calls, sound-opened, sound-kept, never-unsound, refused-changes-nothing, one-result}
-use Rattle.trace.proofs.Looks.{slot-state-looks}
 use Rattle.trace.proofs.Premise.{premise-needed}
 use Rattle.trace.proofs.claims.Statement.{statement}
 use Rattle.trace.proofs.claims.Tie as tie
@@ -19,7 +18,6 @@ returns c =
       never-unsound = never-unsound;
       refused-changes-nothing = refused-changes-nothing;
       one-result = one-result;
-      slot-state-looks = slot-state-looks;
       premise-needed = premise-needed;
     }
 

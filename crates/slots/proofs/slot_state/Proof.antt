@@ -1,4 +1,4 @@
--- `table::slot_state` meets its contract: each `return` rewrites by the tests that led there. Assumes nothing.
+-- `slots::slot_state` meets its contract: each `return` rewrites by the tests that led there. Assumes nothing.
 use native.Mathlib.Omega.{arith}
 use mathlib.Core.Path.{_≡_, sym, ap, _∙_}
 use mathlib.Core.Bool.{true}
@@ -7,11 +7,11 @@ use borrow.Author.Tests.{lt-ltb, le-ltb}
 use borrow.Author.Needs.{needs}
 use Rattle.octets.proofs.Refusals.{answer-refused, answer-accepted}
 use Rattle.sound.specs.Sound.{Channel, sound}
-use Rattle.table.specs.declared.SlotAnswer.the-variants.{Is}
+use Rattle.slots.specs.declared.SlotAnswer.the-variants.{Is}
 use Rattle.table.specs.Memory.{channel, tableOf}
-use Rattle.table.specs.Slots.{slotAnswer}
-use Rattle.table.proofs.slot_state.Statement.{statement}
-use Rattle.table.proofs.slot_state.Tie as tie
+use Rattle.slots.specs.Slots.{slotAnswer}
+use Rattle.slots.proofs.slot_state.Statement.{statement}
+use Rattle.slots.proofs.slot_state.Tie as tie
 
 -- ---- what is known at a place
 

@@ -5,24 +5,17 @@ use mathlib.Core.Bool.{true}
 use Rattle.octets.specs.Refusals.{answer}
 use Rattle.octets.proofs.Refusals.{by-test}
 use Rattle.sound.specs.Sound.{Channel, sound}
-use Rattle.table.specs.declared.SlotAnswer.{SlotAnswer}
-use Rattle.table.specs.declared.SlotAnswer.the-variants.{Is, Refused}
-use Rattle.table.specs.Table.{Table}
-use Rattle.table.specs.Memory.{tableOf, channelOf}
-use Rattle.table.specs.Slots.{slotAnswer, slotSaid, slotOn, slotLook}
+use Rattle.slots.specs.declared.SlotAnswer.{SlotAnswer}
+use Rattle.slots.specs.declared.SlotAnswer.the-variants.{Is, Refused}
+use Rattle.table.specs.Memory.{tableOf}
+use Rattle.slots.specs.Slots.{slotAnswer, slotSaid, slotOn, slotLook}
 use Rattle.table.proofs.Looks.{says-look, says-look-unsound}
-use Rattle.trace.specs.Records.{Sound}
-use Rattle.trace.specs.Claims.{SlotStateLooks}
-use Rattle.trace.proofs.Written.{tableOf-channelOf, sound-channelOf}
+use Rattle.slots.specs.Claims.{SlotStateLooks}
 
 -- of a sound table's octets it goes by the records
-slot-sound : (m : Channel) (slot : ℕ) → sound m ≡ true → slotAnswer m slot ≡ slotOn (tableOf m) slot
+pub slot-sound : (m : Channel) (slot : ℕ) → sound m ≡ true → slotAnswer m slot ≡ slotOn (tableOf m) slot
 unfolding slotAnswer tableOf
 slot-sound m slot h = rw h
-
--- and so of a table written as octets
-pub slotAnswer-channelOf : (t : Table) (slot : ℕ) → Sound t → slotAnswer (channelOf t) slot ≡ slotOn t slot
-slotAnswer-channelOf t slot k = slot-sound (channelOf t) slot (sound-channelOf t k) ∙ ap (λ u. slotOn u slot) (tableOf-channelOf t k)
 
 -- ---- as a look
 

@@ -8,12 +8,12 @@ use Rattle.octets.specs.Refusals.{firstOf, answer}
 use Rattle.record.specs.declared.Rec.{Rec}
 use Rattle.series.specs.Series.{reserves}
 use Rattle.sound.specs.Sound.{Channel, records, sound}
-use Rattle.table.specs.declared.Slot.{Slot}
-use Rattle.table.specs.declared.Slot.the-variants.{Free, Reusable, Taken}
-use Rattle.table.specs.declared.SlotAnswer.{SlotAnswer}
-use Rattle.table.specs.declared.SlotAnswer.the-variants.{Is, Refused}
+use Rattle.slots.specs.declared.Slot.{Slot}
+use Rattle.slots.specs.declared.Slot.the-variants.{Free, Reusable, Taken}
+use Rattle.slots.specs.declared.SlotAnswer.{SlotAnswer}
+use Rattle.slots.specs.declared.SlotAnswer.the-variants.{Is, Refused}
 use Rattle.table.specs.Table.{Table, Said, timeTests}
 use Rattle.table.specs.Memory.{tableOf}
 
 -- the records of a table that reserve a slot
 abbrev pub holders : ℕ → List Rec → ℕ → List Rec

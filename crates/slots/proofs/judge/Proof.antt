@@ -1,16 +1,16 @@
--- `table::judge` meets its contract: by the records so far and the holders still to come the state is the same. Assumes nothing.
+-- `slots::judge` meets its contract: by the records so far and the holders still to come the state is the same. Assumes nothing.
 use Prim.Native.Nat.{_+_, _-_}
 use mathlib.Core.Path.{_≡_, sym, _∙_}
 use native.Mathlib.Omega.{arith}
 use borrow.Author.Needs.{needs}
 use denote.Ref.{now}
 use Rattle.sound.specs.Sound.{records}
 use Rattle.table.specs.Memory.{channel}
-use Rattle.table.specs.Slots.{holders, slotState}
+use Rattle.slots.specs.Slots.{holders, slotState}
 use Rattle.record.proofs.ToCome.{toCome, toCome-next, toCome-none}
-use Rattle.table.proofs.Slots.{judged, judged-start, judged-end, judged-near, judged-next}
-use Rattle.table.proofs.judge.Statement.{statement}
-use Rattle.table.proofs.judge.Tie as tie
+use Rattle.slots.proofs.Judged.{judged, judged-start, judged-end, judged-near, judged-next}
+use Rattle.slots.proofs.judge.Statement.{statement}
+use Rattle.slots.proofs.judge.Tie as tie
 
 abbrev Inv-loop : tie.InvT-loop
 Inv-loop s memory slot held any₀ i₀ any i =

@@ -1,11 +1,11 @@
--- `table::holds_more` meets its contract: it computes the definition. Assumes nothing.
+-- `slots::holds_more` meets its contract: it computes the definition. Assumes nothing.
 use mathlib.Core.Path.{sym, ap, _∙_}
 use mathlib.Core.Bool.{Bool, not, _&&_}
 use borrow.Author.Needs.{needs}
 use Rattle.series.specs.Series.{reserves}
-use Rattle.table.specs.Steps.{holdsMore}
-use Rattle.table.proofs.holds_more.Statement.{statement}
-use Rattle.table.proofs.holds_more.Tie as tie
+use Rattle.slots.specs.Steps.{holdsMore}
+use Rattle.slots.proofs.holds_more.Statement.{statement}
+use Rattle.slots.proofs.holds_more.Tie as tie
 
 returns : tie.Need-returns
 unfolding holdsMore

@@ -6,10 +6,10 @@ use mathlib.Core.List.{List, [], _∷_}
 use Rattle.octets.specs.Lists.{every}
 use Rattle.record.specs.declared.Rec.{Rec}
 use Rattle.series.specs.Series.{reserves}
-use Rattle.table.specs.declared.Slot.{Slot}
-use Rattle.table.specs.declared.Slot.the-variants.{Free, Reusable, Taken}
-use Rattle.table.specs.Slots.{recordFar, stateBy, holders}
-use Rattle.table.specs.Steps.{holdsMore}
+use Rattle.slots.specs.declared.Slot.{Slot}
+use Rattle.slots.specs.declared.Slot.the-variants.{Free, Reusable, Taken}
+use Rattle.slots.specs.Slots.{recordFar, stateBy, holders}
+use Rattle.slots.specs.Steps.{holdsMore}
 
 -- the state where `any` says that far records reserve the slot already, and hs are the holders still to come
 unfoldable pub judged : Bool → List Rec → Slot
