@@ -1,17 +1,18 @@
 -- What a search answers, by its refusals. Assumes nothing.
-use Prim.Native.Nat.{ℕ, _-_}
+use Prim.Native.Nat.{ℕ, _+_, _-_, _≤_}
 use native.Mathlib.Omega.{arith}
 use mathlib.Core.Path.{_≡_, refl, sym, _∙_}
-use mathlib.Core.Bool.{true, false, cond, _||_}
+use mathlib.Core.Bool.{true, false, cond, _||_, and-eq-true-iff}
 use mathlib.Core.List.{List, []}
 use lib.Dec.{leb, ltb, eqb}
 use lib.ListN.{length as len}
 use lib.Seq.{take-all}
-use borrow.Author.Tests.{ltb-false, eq-eqb, ne-eqb}
+use borrow.Author.Tests.{ltb-false, leb-false, eq-eqb, ne-eqb}
 use Rattle.octets.specs.Octets.{holdsOnly}
 use Rattle.octets.specs.Refusals.{firstOf}
 use Rattle.octets.proofs.Refusals.{firstOf-append, firstOf-stop, firstOf-zero, outside-false, or-eq-false, answer-refused, answer-accepted}
 use Rattle.sound.specs.Sound.{Channel, sound}
+use Rattle.sound.proofs.Sound.{m1-most}
 use Rattle.table.specs.Memory.{tableOf}
 use Rattle.search.specs.declared.Query.{Query}
 use Rattle.search.specs.Search.{statesOf, listed, queryTests, slotTests, searchRefusal, found, searched, listAfter}
@@ -30,12 +31,23 @@ well-asked m1 now q places z =
     record {
       in-order = ltb-false (q .hi) (q .lo) (order .1);
       not-late = ltb-false 1_000_000_000 (q .hi) (late .1);
-      some-length = length .0;
       short = length .1;
       some-wanted = wanted .0;
       few = wanted .1;
       has-room = ltb-false places (q .wanted) (t .1 .1 .1 .0);
     }
+
+-- and its slots in a sound table fit in the longest window
+pub fits-window : (m : Channel) (q : Query) (places : ℕ) → sound m ≡ true → firstOf (queryTests (m .m1) (m .now) q places) ≡ 0 → q .hi + q .length + 32 ≤ q .lo + 15423
+unfolding sound
+fits-window m q places s z =
+    let t = firstOf-zero (queryTests (m .m1) (m .now) q places) refl z in
+    let range = or-eq-false (ltb (q .lo) (m .now) || ltb (q .hi) (q .lo) || ltb 1_000_000_000 (q .hi)) (leb (m .m1) (q .hi - q .lo)) (t .0) in
+    let near = leb-false (m .m1) (q .hi - q .lo) (range .1) in
+    let fit = simp and-eq-true-iff at s in
+    let most = m1-most m (fit .0 .0) in
+    let p = well-asked (m .m1) (m .now) q places z in
+    omega (arith, p .in-order, p .short)
 
 -- ---- a search of a table
 

@@ -1,4 +1,8 @@
 pub mod Streak
+pub mod Octets
+pub mod Blocks
+pub mod Skipped
+pub mod Stretch
 pub mod Filled
 pub mod Listed
 pub mod Scanned
@@ -6,4 +10,5 @@ pub mod Asked
 pub mod First
 pub mod None
 pub mod Window
+pub mod ByOctets
 pub mod Answers

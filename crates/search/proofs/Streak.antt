@@ -1,22 +1,17 @@
--- Laws of `streak` and `streaks`: which blocks of slots a streak tells of. Assumes nothing.
-use Prim.Native.Nat.{ℕ, zero, suc, _+_, _≤_, zero-le}
+-- Laws of `streak`: which numbers a streak tells of. Assumes nothing.
+use Prim.Native.Nat.{ℕ, zero, suc, _+_, _-_, _<_, _≤_, zero-le}
 use native.Mathlib.Nat.{add-suc, add-assoc}
 use native.Mathlib.Numerals.{add-one}
 use native.Mathlib.Omega.{arith}
-use mathlib.Core.Path.{_≡_, sym, ap, _∙_}
-use mathlib.Core.Bool.{Bool, true, false, cond, not, _&&_, and-true, and-false}
+use mathlib.Core.Path.{_≡_, refl, sym, ap, _∙_}
+use mathlib.Core.Bool.{Bool, true, false, cond, _&&_, and-true, and-false}
 use lib.Dec.{leb, leb·zero, leb·suc-zero, leb·suc-suc}
 use Rattle.octets.specs.Lists.{every, from}
-use Rattle.octets.proofs.Lists.{every-not, every-from-next}
-use Rattle.slots.specs.declared.Slot.{Slot}
-use Rattle.search.specs.declared.Streaks.{Streaks}
-use Rattle.search.specs.Search.{isFree, isTaken, level0, level1}
-use Rattle.search.specs.Steps.{streak, streaks, further}
-
--- ---- streak
+use Rattle.octets.proofs.Lists.{every-from-next}
+use Rattle.search.specs.Steps.{streak}
 
 -- the streak is at least n long exactly where the last n of the m + n numbers pass
-streak-every : (p : ℕ → Bool) (lo m n : ℕ) → leb n (streak p lo (m + n)) ≡ every p (from (lo + m) n)
+pub streak-every : (p : ℕ → Bool) (lo m n : ℕ) → leb n (streak p lo (m + n)) ≡ every p (from (lo + m) n)
 unfolding streak
 streak-every p lo m zero = leb·zero (streak p lo (m + 0))
 streak-every p lo m (suc n) =
@@ -29,7 +24,7 @@ streak-every p lo m (suc n) =
     go false = rw (leb·suc-zero, and-false)
 
 -- no streak is longer than the numbers passed
-streak-≤ : (p : ℕ → Bool) (lo n : ℕ) → streak p lo n ≤ n
+pub streak-≤ : (p : ℕ → Bool) (lo n : ℕ) → streak p lo n ≤ n
 unfolding streak
 streak-≤ p lo zero = zero-le
 streak-≤ p lo (suc n) = go (p (lo + n)) (streak-≤ p lo n)
@@ -38,27 +33,34 @@ streak-≤ p lo (suc n) = go (p (lo + n)) (streak-≤ p lo n)
     go true h = omega arith
     go false h = omega arith
 
--- ---- streaks
+-- one number more
+pub streak-next : (p : ℕ → Bool) (lo n : ℕ) → streak p lo (n + 1) ≡ cond (p (lo + n)) (streak p lo n + 1) 0
+unfolding streak
+streak-next p lo n = rw add-one
 
-module _ (states : ℕ → Slot) (lo n : ℕ) where
-  -- so is neither streak of slots
-  pub streaks-≤ : (r : Streaks) → r ≡ streaks states lo n → (r .free ≤ n) × (r .untaken ≤ n)
-  unfolding streaks
-  streaks-≤ r e = rw e (streak-≤ (λ slot. isFree (states slot)) lo n, streak-≤ (λ slot. not (isTaken (states slot))) lo n)
+-- by the last number
+pub streak-last : (p : ℕ → Bool) (lo n : ℕ) → 0 < n → streak p lo n ≡ cond (p (lo + (n - 1))) (streak p lo (n - 1) + 1) 0
+streak-last p lo n h =
+    let e : n ≡ n - 1 + 1 = omega arith in
+    ap (streak p lo) e ∙ streak-next p lo (n - 1)
 
-  -- one slot more
-  pub streaks-next : streaks states lo (n + 1) ≡ further (streaks states lo n) (states (lo + n))
-  unfolding streaks streak
-  streaks-next = rw add-one
+-- the number before a streak does not pass
+pub streak-stop : (p : ℕ → Bool) (lo n : ℕ) → streak p lo n < n → p (lo + (n - 1 - streak p lo n)) ≡ false
+unfolding streak
+streak-stop p lo zero h = absurd (omega arith)
+streak-stop p lo (suc n) h = go (p (lo + n)) refl h (streak-stop p lo n)
+  where
+    go : (b : Bool) → p (lo + n) ≡ b → cond b (streak p lo n + 1) 0 < suc n → (streak p lo n < n → p (lo + (n - 1 - streak p lo n)) ≡ false)
+        → p (lo + (suc n - 1 - cond b (streak p lo n + 1) 0)) ≡ false
+    go true e k rest =
+        let same : suc n - 1 - (streak p lo n + 1) ≡ n - 1 - streak p lo n = omega arith in
+        rw same (rest (omega arith))
+    go false e k rest =
+        let same : suc n - 1 - 0 ≡ n = omega arith in
+        rw same e
 
--- a block's level, by the streaks up to its last slot
-module _ (states : ℕ → Slot) (lo m length : ℕ) (r : Streaks) (e : r ≡ streaks states lo (m + length)) where
-  pub streaks-level0 : leb length (r .free) ≡ level0 states length (lo + m)
-  unfolding streaks level0
-  streaks-level0 = rw e (streak-every (λ slot. isFree (states slot)) lo m length)
-
-  pub streaks-level1 : (not (leb length (r .free)) && leb length (r .untaken)) ≡ level1 states length (lo + m)
-  unfolding streaks level1
-  streaks-level1 =
-      rw (streaks-level0, ← every-not (λ slot. isTaken (states slot)) (from (lo + m) length))
-      (ap (λ b. not (level0 states length (lo + m)) && b) (rw e (streak-every (λ slot. not (isTaken (states slot))) lo m length)))
+-- two tests that agree, the one from a on and the other from b on
+pub streak-agree : (p q : ℕ → Bool) (a b n : ℕ) → ((i : ℕ) → p (a + i) ≡ q (b + i)) → streak p a n ≡ streak q b n
+unfolding streak
+streak-agree p q a b zero h = refl
+streak-agree p q a b (suc n) h = rw (h n, streak-agree p q a b n h)

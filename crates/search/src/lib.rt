@@ -1,15 +1,16 @@
-// The search for blocks of slots that may be used, over the slot state's promise; and pick.
-use slots::Slot;
+// The search for blocks of slots that may be used, over the promise of a window's slot states; and pick.
 use table::State;
 ghost use mathlib.Core.Path.{_≡_};
+ghost use mathlib.Core.Bool.{true, cond};
 ghost use mathlib.Core.List.{[], _++_};
 ghost use Prim.Native.Nat.{_+_, _≤_, _<_};
+ghost use lib.Dec.{eqb};
 ghost use lib.ListN.{length, take};
 ghost use Rattle.octets.specs.Octets.{holdsOnly};
 ghost use Rattle.octets.specs.Refusals.{firstOf};
 ghost use Rattle.table.specs.Memory.{channel, tableOf};
 ghost use Rattle.search.specs.Search.{statesOf, queryTests, listed, listAfter, searched, picked};
-ghost use Rattle.search.specs.Steps.{further, streaks, pushedNext, pushed, WellAsked};
+ghost use Rattle.search.specs.Steps.{WellAsked, statesIn, octetBelow, streak, blockBelow, Skipped, boundBy, pushedNext, pushed, Scanned};
 ghost use Rattle.search.specs.Claims.{Claims};
 
 // What a search is given: where a block may start, its length, and how many starts are wanted.
@@ -32,10 +33,11 @@ pub struct Picked {
     pub place: u32,
 }
 
-// How many of the slots judged last are free, one after the other, and how many are not taken.
-struct Streaks {
-    free: u32,
-    untaken: u32,
+// How far a search has come: the starts below one are decided, and so many of level 0 and of level 1 are listed.
+struct Progress {
+    start: u32,
+    listed: usize,
+    kept: usize,
 }
 
 fn refuse(n: u32) -> Found
@@ -79,44 +81,63 @@ fn wipe(list: &mut [u32])
     }
 }
 
-// ---- the streaks up to a slot
+// ---- the octets of slot states: 0 free, 1 reusable, else taken
 
-// The streaks with one slot more.
-fn lengthen(r: Streaks, x: Slot) -> Streaks
-    requires { ⌜ (r .free < 4294967295) × (r .untaken < 4294967295) ⌝ }
-    ensures { λ v. ⌜ v ≡ further r x ⌝ }
+// How many of the n octets from a place on, counted from the last back, are below x, one after the other: 1 tells the free slots, 2 those that
+// are not taken.
+fn streak_below(states: &[u8], at: usize, n: usize, x: u8) -> usize
+    requires { ⌜ at + n ≤ length (now states) ⌝ }
+    ensures { λ r. ⌜ r ≡ streak (octetBelow (now (states .entry)) x) at n ⌝ }
 {
-    match x {
-        Slot::Free => Streaks {
-            free: r.free + 1,
-            untaken: r.untaken + 1,
-        },
-        Slot::Taken => Streaks {
-            free: 0,
-            untaken: 0,
-        },
-        Slot::Reusable => Streaks {
-            free: 0,
-            untaken: r.untaken + 1,
-        },
+    let mut k = n;
+    while 0 < k {
+        let last = k - 1;
+        if x <= states[at + last] {
+            return n - k;
+        }
+        k = last;
     }
+    n
 }
 
-// The streaks over the n slots from lo on.
-fn warm_up(s: State, memory: &[u8], lo: u32, n: u32) -> Streaks
-    requires { ⌜ lo + n < 4294967295 ⌝ }
-    ensures { λ v. ⌜ v ≡ streaks (statesOf (tableOf (channel s (now (memory .entry))))) lo n ⌝ }
+// A streak of free slots with one slot more, by its octet.
+fn lengthen(free: usize, octet: u8) -> usize
+    requires { ⌜ free < 4294967295 ⌝ }
+    ensures { λ r. ⌜ r ≡ cond (eqb octet 0) (free + 1) 0 ⌝ }
 {
-    let mut r = Streaks {
-        free: 0,
-        untaken: 0,
-    };
-    let mut i = 0;
-    while i < n {
-        r = lengthen(r, slots::judge(s, memory, lo + i));
-        i += 1;
+    if octet == 0 {
+        return free + 1;
     }
-    r
+    0
+}
+
+// The first start from one on whose block is all below x; hi + 1 where there is none. A slot that is not below x rules out every start
+// whose block holds it, so most slots are never looked at.
+fn skip(states: &[u8], q: Query, start: u32, x: u8) -> u32
+    requires { ⌜ (q .lo ≤ start) × (start ≤ q .hi + 1) × (q .hi ≤ 1000000000) × (q .length ≤ 32) × (q .hi + q .length < q .lo + length (now states)) ⌝ }
+    ensures { λ r. ⌜ Skipped (now (states .entry)) q x start r ⌝ }
+{
+    let length = q.length as usize;
+    let mut s = start;
+    while s <= q.hi {
+        let n = streak_below(states, (s - q.lo) as usize, length, x);
+        if n == length {
+            return s;
+        }
+        let stop = s + (length - 1 - n) as u32;
+        s = stop + 1;
+    }
+    q.hi + 1
+}
+
+// What a block must be below to matter: 2, none taken; or 1, all free, once enough level 1 starts are kept.
+fn bound(kept: usize, most: usize) -> u8
+    ensures { λ r. ⌜ r ≡ boundBy kept most ⌝ }
+{
+    if kept == most {
+        return 1;
+    }
+    2
 }
 
 // ---- the list
@@ -150,31 +171,140 @@ fn append(list: &mut [u32], n: usize, most: usize, later: &[u32], kept: usize) -
     k
 }
 
-// Goes along the slots, each judged once, with the level 0 starts in `list` and the level 1 starts in `later`, both wiped.
-fn scan(s: State, memory: &[u8], q: Query, list: &mut [u32], later: &mut [u32]) -> usize
-    requires { ⌜ WellAsked q (length (now list)) × (q .wanted ≤ length (now later)) ⌝ }
+// From a start whose block has no taken slot: decides it and those after it, as far as the slots behind matter, or until the list is full.
+fn along(states: &[u8], q: Query, list: &mut [u32], later: &mut [u32], p: Progress) -> Progress
+    requires { ⌜ WellAsked q (length (now list)) × (q .wanted ≤ length (now later)) × (q .hi + q .length < q .lo + length (now states)) ⌝ }
+    requires { ⌜ (p .start ≤ q .hi) × (blockBelow (now states) q 2 (p .start) ≡ true) ⌝ }
+    requires { ⌜ Scanned (statesIn (now states) (q .lo)) q (length (now list)) (length (now later)) (p .start) (p .listed) (p .kept) (now list) (now later) ⌝ }
+    ensures ahead { λ r. ⌜ p .start < r .start ⌝ }
+    ensures decided { λ r. ⌜ Scanned (statesIn (now (states .entry)) (q .lo)) q (length (now (list .entry))) (length (now (later .entry))) (r .start) (r .listed) (r .kept) (now (list .exit)) (now (later .exit)) ⌝ }
+{
+    let length = q.length as usize;
+    let most = q.wanted as usize;
+    let mut start = p.start;
+    let mut listed = p.listed;
+    let mut kept = p.kept;
+    let mut free = streak_below(states, (start - q.lo) as usize, length, 1);
+    while start <= q.hi {
+        let all = length <= free;
+        listed = push(list, listed, most, start, all);
+        kept = push(later, kept, most, start, !all);
+        let behind = states[(start - q.lo) as usize + length];
+        start += 1;
+        if (listed == most) | (bound(kept, most) <= behind) {
+            return Progress {
+                start,
+                listed,
+                kept,
+            };
+        }
+        free = lengthen(free, behind);
+    }
+    Progress {
+        start,
+        listed,
+        kept,
+    }
+}
+
+// Goes along the states of a query's slots, from lo on and with an octet more behind them: the level 0 starts in `list` and the level 1
+// starts in `later`, both wiped.
+fn scan(states: &[u8], q: Query, list: &mut [u32], later: &mut [u32]) -> usize
+    requires { ⌜ WellAsked q (length (now list)) × (q .wanted ≤ length (now later)) × (q .hi + q .length < q .lo + length (now states)) ⌝ }
+    requires { ⌜ (now list ≡ holdsOnly (length (now list)) []) × (now later ≡ holdsOnly (length (now later)) []) ⌝ }
+    ensures number { λ r. ⌜ r ≡ length (listed (statesIn (now (states .entry)) (q .lo)) q) ⌝ }
+    ensures list { λ _. ⌜ now (list .exit) ≡ holdsOnly (length (now (list .entry))) (listed (statesIn (now (states .entry)) (q .lo)) q) ⌝ }
+{
+    let most = q.wanted as usize;
+    let mut p = Progress {
+        start: skip(states, q, q.lo, 2),
+        listed: 0,
+        kept: 0,
+    };
+    while p.start <= q.hi {
+        let r = along(states, q, list, later, p);
+        if r.listed == most {
+            return most;
+        }
+        p = Progress {
+            start: skip(states, q, r.start, bound(r.kept, most)),
+            listed: r.listed,
+            kept: r.kept,
+        };
+    }
+    append(list, p.listed, most, later, p.kept)
+}
+
+// The same by the records held, in a wiped window that has room for the slots asked about and 32 octets more.
+fn look(
+    s: State,
+    memory: &[u8],
+    q: Query,
+    window: &mut [u8],
+    list: &mut [u32],
+    later: &mut [u32],
+) -> usize
+    requires { ⌜ WellAsked q (length (now list)) × (q .wanted ≤ length (now later)) × (q .hi + q .length + 32 ≤ q .lo + length (now window)) ⌝ }
+    requires { ⌜ (now list ≡ holdsOnly (length (now list)) []) × (now later ≡ holdsOnly (length (now later)) []) × (now window ≡ holdsOnly (length (now window)) []) ⌝ }
+    ensures number { λ r. ⌜ r ≡ length (listed (statesOf (tableOf (channel s (now (memory .entry))))) q) ⌝ }
+    ensures list { λ _. ⌜ now (list .exit) ≡ holdsOnly (length (now (list .entry))) (listed (statesOf (tableOf (channel s (now (memory .entry))))) q) ⌝ }
+{
+    let n = (q.hi - q.lo + q.length) as usize + 32;
+    slots::raise(s, memory, q.lo, &mut window[..n]);
+    scan(window, q, list, later)
+}
+
+// The same for a query about some hundred slots: a short window is sooner cleared.
+fn look_near(s: State, memory: &[u8], q: Query, list: &mut [u32], later: &mut [u32]) -> usize
+    requires { ⌜ WellAsked q (length (now list)) × (q .wanted ≤ length (now later)) × (q .hi + q .length + 32 ≤ q .lo + 192) ⌝ }
     requires { ⌜ (now list ≡ holdsOnly (length (now list)) []) × (now later ≡ holdsOnly (length (now later)) []) ⌝ }
     ensures number { λ r. ⌜ r ≡ length (listed (statesOf (tableOf (channel s (now (memory .entry))))) q) ⌝ }
     ensures list { λ _. ⌜ now (list .exit) ≡ holdsOnly (length (now (list .entry))) (listed (statesOf (tableOf (channel s (now (memory .entry))))) q) ⌝ }
 {
-    let most = q.wanted as usize;
-    let length = q.length;
-    let last = length - 1;
-    let mut r = warm_up(s, memory, q.lo, last);
-    let mut start = q.lo;
-    let mut n = 0;
-    let mut kept = 0;
-    while start <= q.hi {
-        r = lengthen(r, slots::judge(s, memory, start + last));
-        let free = length <= r.free;
-        n = push(list, n, most, start, free);
-        kept = push(later, kept, most, start, !free & (length <= r.untaken));
-        if n == most {
-            return n;
-        }
-        start += 1;
+    let mut window = [0u8; 192];
+    look(s, memory, q, &mut window, list, later)
+}
+
+// The same for one about a thousand.
+fn look_ahead(s: State, memory: &[u8], q: Query, list: &mut [u32], later: &mut [u32]) -> usize
+    requires { ⌜ WellAsked q (length (now list)) × (q .wanted ≤ length (now later)) × (q .hi + q .length + 32 ≤ q .lo + 1152) ⌝ }
+    requires { ⌜ (now list ≡ holdsOnly (length (now list)) []) × (now later ≡ holdsOnly (length (now later)) []) ⌝ }
+    ensures number { λ r. ⌜ r ≡ length (listed (statesOf (tableOf (channel s (now (memory .entry))))) q) ⌝ }
+    ensures list { λ _. ⌜ now (list .exit) ≡ holdsOnly (length (now (list .entry))) (listed (statesOf (tableOf (channel s (now (memory .entry))))) q) ⌝ }
+{
+    let mut window = [0u8; 1152];
+    look(s, memory, q, &mut window, list, later)
+}
+
+// The same for a superframe of the usual 4,500 slots.
+fn look_along(s: State, memory: &[u8], q: Query, list: &mut [u32], later: &mut [u32]) -> usize
+    requires { ⌜ WellAsked q (length (now list)) × (q .wanted ≤ length (now later)) × (q .hi + q .length + 32 ≤ q .lo + 4608) ⌝ }
+    requires { ⌜ (now list ≡ holdsOnly (length (now list)) []) × (now later ≡ holdsOnly (length (now later)) []) ⌝ }
+    ensures number { λ r. ⌜ r ≡ length (listed (statesOf (tableOf (channel s (now (memory .entry))))) q) ⌝ }
+    ensures list { λ _. ⌜ now (list .exit) ≡ holdsOnly (length (now (list .entry))) (listed (statesOf (tableOf (channel s (now (memory .entry))))) q) ⌝ }
+{
+    let mut window = [0u8; 4608];
+    look(s, memory, q, &mut window, list, later)
+}
+
+// The same for any query: at most 15,360 starts, 31 slots behind the last, and 32 octets more.
+fn look_far(s: State, memory: &[u8], q: Query, list: &mut [u32], later: &mut [u32]) -> usize
+    requires { ⌜ WellAsked q (length (now list)) × (q .wanted ≤ length (now later)) × (q .hi + q .length + 32 ≤ q .lo + 15423) ⌝ }
+    requires { ⌜ (now list ≡ holdsOnly (length (now list)) []) × (now later ≡ holdsOnly (length (now later)) []) ⌝ }
+    ensures number { λ r. ⌜ r ≡ length (listed (statesOf (tableOf (channel s (now (memory .entry))))) q) ⌝ }
+    ensures list { λ _. ⌜ now (list .exit) ≡ holdsOnly (length (now (list .entry))) (listed (statesOf (tableOf (channel s (now (memory .entry))))) q) ⌝ }
+{
+    if q.hi - q.lo <= 128 {
+        return look_near(s, memory, q, list, later);
     }
-    append(list, n, most, later, kept)
+    if q.hi - q.lo <= 1088 {
+        return look_ahead(s, memory, q, list, later);
+    }
+    if q.hi - q.lo <= 4544 {
+        return look_along(s, memory, q, list, later);
+    }
+    let mut window = [0u8; 15423];
+    look(s, memory, q, &mut window, list, later)
 }
 
 // Lists the first starts in lo..hi of a block that is free, then of one that has no taken slot, into a list that is wiped at each
@@ -191,7 +321,7 @@ pub fn search(s: State, memory: &[u8], q: Query, list: &mut [u32]) -> Found
             return refuse(n);
         }
         let mut later = [0u32; 16];
-        let found = scan(s, memory, q, list, &mut later);
+        let found = look_far(s, memory, q, list, &mut later);
         if found == 0 {
             return refuse(21);
         }

@@ -1,3 +1,4 @@
 pub mod Slots
+pub mod Window
 pub mod Steps
 pub mod Claims

@@ -1,10 +1,99 @@
--- What the private functions promise: the code's own steps. Nothing that a caller of the crate has to believe.
-use Prim.Native.Nat.{ℕ}
-use mathlib.Core.Bool.{Bool, not, _&&_}
+-- What the private functions ask and promise: the code's own steps. Nothing that a caller of the crate has to believe.
+use Prim.Native.Nat.{ℕ, _+_, _-_, _*_, _≤_, _<_, max}
+use mathlib.Core.Path.{_≡_}
+use mathlib.Core.Bool.{Bool, false, cond, not, _&&_, _||_}
+use mathlib.Core.List.{List}
+use lib.Dec.{leb, ltb, eqb}
+use lib.ListN.{length, getD}
+use lib.Seq.{slice}
 use Rattle.record.specs.declared.Rec.{Rec}
-use Rattle.series.specs.Series.{reserves}
+use Rattle.record.specs.Record.{allRecords}
+use Rattle.series.specs.Series.{someBelow, inBlock, reserves}
+use Rattle.slots.specs.declared.Series.{Series}
 use Rattle.slots.specs.Slots.{recordFar}
+use Rattle.slots.specs.Window.{slotStateNumber}
+
+-- ---- the judge
 
 -- a record that reserves a slot, but for a far one where `any` says that far ones do already
 unfoldable pub holdsMore : ℕ → ℕ → Bool → Rec → Bool
 holdsMore m1 slot any r = not (any && recordFar r) && reserves m1 r slot
+
+-- ---- a series of blocks
+
+-- one of its first n blocks holds the slot
+abbrev pub firstHold : Series → ℕ → ℕ → Bool
+firstHold s n slot = someBelow n (λ j. inBlock (s .start + j * s .spacing) (s .length) slot)
+
+-- one of its blocks does
+abbrev pub holds : Series → ℕ → Bool
+holds s slot = firstHold s (s .blocks) slot
+
+-- one of its blocks in so many superframes of m1 slots does
+abbrev pub holdsIn : ℕ → ℕ → Series → ℕ → Bool
+holdsIn m1 superframes s slot =
+    someBelow superframes (λ k. someBelow (s .blocks) (λ j. inBlock (s .start + k * m1 + j * s .spacing) (s .length) slot))
+
+-- the series without its first n blocks
+abbrev pub after : Series → ℕ → Series
+after s n = record { start = s .start + n * s .spacing; spacing = s .spacing; blocks = s .blocks - n; length = s .length }
+
+-- its numbers are so small that sums of them fit
+pub record Small (s : Series) : Type 0 where
+  pub few : s .blocks ≤ 255
+  pub close : s .spacing ≤ 4294967295
+  pub short : s .length ≤ 255
+  pub early : s .start + s .blocks * s .spacing ≤ 2199023255552
+
+-- n of its blocks can be left out of a window from lo on, and no more
+pub record Skips (lo : ℕ) (s : Series) (n : ℕ) : Type 0 where
+  pub some : n < s .blocks
+  pub begun : s .start ≤ lo → s .start + n * s .spacing ≤ lo
+  pub next : lo ≤ s .start + (n + 1) * s .spacing
+  pub none : (slot : ℕ) → lo ≤ slot → firstHold s n slot ≡ false
+
+-- the series that is left of one from lo on, once its first blocks are marked
+pub record Left (lo : ℕ) (s r : Series) : Type 0 where
+  pub small : Small r
+  pub ahead : lo ≤ r .start
+  pub gaps : r .length < r .spacing
+  pub short : r .length ≤ 32
+  pub parts : (slot : ℕ) → lo ≤ slot → (firstHold s (s .blocks - r .blocks) slot || holds r slot) ≡ holds s slot
+
+-- ---- marks
+
+-- the mark of a record: 1 far, 2 near
+abbrev pub markOf : ℕ → ℕ
+markOf far = cond (eqb far 1) 1 2
+
+-- of the first n octets those at the places that pass are raised to the mark, and the others are as they were
+pub record Marked (n mark : ℕ) (p : ℕ → Bool) (xs ys : List ℕ) : Type 0 where
+  pub at : (i : ℕ) → i < n → getD ys i 0 ≡ cond (p i) (max (getD xs i 0) mark) (getD xs i 0)
+
+-- the first n octets are at a mark or above it
+pub record AtLeast (n mark : ℕ) (xs : List ℕ) : Type 0 where
+  pub at : (i : ℕ) → i < n → mark ≤ getD xs i 0
+
+-- a place from one up to another
+abbrev pub between : ℕ → ℕ → ℕ → Bool
+between from to i = leb from i && ltb i to
+
+-- the window from lo up to an end, and 32 octets more
+pub record Room (lo end : ℕ) (out : List ℕ) : Type 0 where
+  pub ahead : lo ≤ end
+  pub behind : end + 32 ≤ lo + length out
+
+-- n of the 64 places for each of the two marks hold it, and the others 0: with 32, n marks and then zeros stand from 32 - n on
+pub record Stairs (n : ℕ) (xs : List ℕ) : Type 0 where
+  pub ones : (i : ℕ) → i < 64 → getD xs i 0 ≡ cond (ltb i n) 1 0
+  pub twos : (i : ℕ) → i < 64 → getD xs (64 + i) 0 ≡ cond (ltb i n) 2 0
+
+-- ---- the records of a table
+
+-- those of a memory from i up to n
+abbrev pub recordsFrom : ℕ → ℕ → List ℕ → List Rec
+recordsFrom i n m = slice i n (allRecords m)
+
+-- the first n octets are raised to the numbers of the slots from lo on
+pub record Raised (n m1 : ℕ) (rs : List Rec) (lo : ℕ) (xs ys : List ℕ) : Type 0 where
+  pub at : (i : ℕ) → i < n → getD ys i 0 ≡ max (getD xs i 0) (slotStateNumber m1 rs (lo + i))

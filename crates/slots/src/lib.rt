@@ -1,11 +1,18 @@
-// The state of a slot by the records of a table.
+// The state of a slot by the records of a table, and the states of the slots of a window, worked out record by record.
 use record::Rec;
 use table::State;
 ghost use mathlib.Core.Path.{_≡_};
+ghost use mathlib.Core.Bool.{true};
+ghost use Prim.Native.Nat.{_+_, _-_, _*_, _/_, _≤_, _<_, min, max};
+ghost use lib.ListN.{length as len};
+ghost use Rattle.octets.specs.Octets.{zeroFrom, holdsOnly};
+ghost use Rattle.record.specs.Record.{capacity};
+ghost use Rattle.series.specs.Series.{inBlock, reserves};
 ghost use Rattle.sound.specs.Sound.{records};
 ghost use Rattle.table.specs.Memory.{channel};
 ghost use Rattle.slots.specs.Slots.{slotState, slotAnswer};
-ghost use Rattle.slots.specs.Steps.{holdsMore};
+ghost use Rattle.slots.specs.Window.{windowStates, windowSlots, raised};
+ghost use Rattle.slots.specs.Steps.{holdsMore, markOf, firstHold, holds, holdsIn, after, recordsFrom, Small, Skips, Left, Marked, between, Room, Stairs, Raised, AtLeast};
 ghost use Rattle.slots.specs.Claims.{Claims};
 
 // A slot's state.
@@ -19,6 +26,14 @@ pub enum Slot {
 pub enum SlotAnswer {
     Is(Slot),
     Refused(u32),
+}
+
+// Blocks of so many slots, one after the other at a spacing.
+struct Series {
+    start: u64,
+    spacing: u64,
+    blocks: u64,
+    length: u64,
 }
 
 // ---- the slot state
@@ -72,6 +87,410 @@ pub fn slot_state(s: State, memory: &[u8], slot: u32) -> SlotAnswer
         return SlotAnswer::Is(state);
     }
     SlotAnswer::Refused(11)
+}
+
+// ---- numbers
+
+fn greater(a: u8, b: u8) -> u8
+    ensures { λ r. ⌜ r ≡ max a b ⌝ }
+{
+    if a < b {
+        return b;
+    }
+    a
+}
+
+fn lesser(a: u64, b: u64) -> u64
+    ensures { λ r. ⌜ r ≡ min a b ⌝ }
+{
+    if a < b {
+        return a;
+    }
+    b
+}
+
+fn larger(a: u64, b: u64) -> u64
+    ensures { λ r. ⌜ r ≡ max a b ⌝ }
+{
+    if a < b {
+        return b;
+    }
+    a
+}
+
+// a less b, 0 where b is greater.
+fn less(a: u64, b: u64) -> u64
+    ensures { λ r. ⌜ r ≡ a - b ⌝ }
+{
+    if a < b {
+        return 0;
+    }
+    a - b
+}
+
+// A product that stays small.
+fn times(n: u64, m: u64) -> u64
+    requires { ⌜ (n ≤ 255) × (m ≤ 4294967295) ⌝ }
+    ensures { λ r. ⌜ (r ≡ n * m) × (r ≤ 1095216660225) ⌝ }
+{
+    n * m
+}
+
+// x over d, the remainder dropped; 0 where d is 0, as in the definitions. By 1 nothing is divided.
+fn quotient(x: u64, d: u64) -> u64
+    ensures { λ r. ⌜ (r ≡ x / d) × (r ≤ x) ⌝ }
+{
+    if d < 2 {
+        return x * d;
+    }
+    x / d
+}
+
+// ---- one block
+
+// Marks the octets from a place up to another.
+fn mark_run(out: &mut [u8], from: usize, to: usize, mark: u8)
+    requires { ⌜ to ≤ len (now out) ⌝ }
+    ensures { λ _. ⌜ Marked (len (now (out .entry))) mark (between from to) (now (out .entry)) (now (out .exit)) ⌝ }
+{
+    let mut i = from;
+    while i < to {
+        out[i] = greater(out[i], mark);
+        i += 1;
+    }
+}
+
+// Marks those slots of a block that lie in the window from lo on.
+fn mark_block(out: &mut [u8], lo: u64, start: u64, length: u64, mark: u8)
+    requires { ⌜ (start ≤ 4398046511104) × (length ≤ 4398046511104) ⌝ }
+    ensures { λ _. ⌜ Marked (len (now (out .entry))) mark (λ i. inBlock start length (lo + i)) (now (out .entry)) (now (out .exit)) ⌝ }
+{
+    let n = out.len() as u64;
+    let from = less(start, lo);
+    let to = lesser(less(start + length, lo), n);
+    mark_run(out, from as usize, to as usize, mark);
+}
+
+// Marks a block of at most so many slots as it is wide, all of them at once: so many octets from its place on are raised, those behind the
+// block to 0.
+fn mark_wide(out: &mut [u8], at: usize, length: usize, mark: u8, stairs: &[u8; 128], width: usize)
+    requires { ⌜ (at + 32 ≤ len (now out)) × (length ≤ width) × (width ≤ 32) × (1 ≤ mark) × (mark ≤ 2) × Stairs 32 (now stairs) ⌝ }
+    ensures { λ _. ⌜ Marked (len (now (out .entry))) mark (inBlock at length) (now (out .entry)) (now (out .exit)) ⌝ }
+{
+    let step = mark as usize * 64 - 32 - length;
+    let mut d = 0;
+    while d < width {
+        out[at + d] = greater(out[at + d], stairs[step + d]);
+        d += 1;
+    }
+}
+
+// Marks a block of at most 32 slots that may have started before lo.
+fn mark_short(out: &mut [u8], lo: u64, start: u64, length: u64, mark: u8, stairs: &[u8; 128])
+    requires { ⌜ (start ≤ 4398046511104) × (32 ≤ len (now out)) × (start + 32 ≤ lo + len (now out)) × (length ≤ 32) ⌝ }
+    requires { ⌜ (1 ≤ mark) × (mark ≤ 2) × Stairs 32 (now stairs) ⌝ }
+    ensures { λ _. ⌜ Marked (len (now (out .entry))) mark (λ i. inBlock start length (lo + i)) (now (out .entry)) (now (out .exit)) ⌝ }
+{
+    let at = less(start, lo);
+    let left = less(start + length, lo) - at;
+    mark_wide(out, at as usize, left as usize, mark, stairs, 32);
+}
+
+// ---- a series of blocks, in a window from lo up to an end behind which there are 32 octets more
+
+// The series without its first n blocks.
+fn after(s: Series, n: u64) -> Series
+    requires { ⌜ Small s × (n ≤ s .blocks) ⌝ }
+    ensures { λ r. ⌜ r ≡ after s n ⌝ }
+{
+    Series {
+        start: s.start + times(n, s.spacing),
+        spacing: s.spacing,
+        blocks: s.blocks - n,
+        length: s.length,
+    }
+}
+
+// How many of its blocks are left out, as they are over before lo. Not all are.
+fn skipped(lo: u64, s: Series) -> u64
+    requires { ⌜ (s .length < s .spacing) × (0 < s .blocks) × (lo < s .start + s .blocks * s .spacing) ⌝ }
+    ensures { λ r. ⌜ Skips lo s r ⌝ }
+{
+    let spacing = s.spacing;
+    less(lo, s.start) / spacing
+}
+
+// Marks the blocks, of at most so many slots as they are wide, of a series that starts in the window or behind it.
+fn mark_ahead(
+    out: &mut [u8],
+    lo: u64,
+    end: u64,
+    s: Series,
+    mark: u8,
+    stairs: &[u8; 128],
+    width: usize,
+)
+    requires { ⌜ Small s × (lo ≤ s .start) × (s .length < s .spacing) × (s .length ≤ width) × (width ≤ 32) × Room lo end (now out) ⌝ }
+    requires { ⌜ (1 ≤ mark) × (mark ≤ 2) × Stairs 32 (now stairs) ⌝ }
+    ensures { λ _. ⌜ Marked (end - lo) mark (λ i. holds s (lo + i)) (now (out .entry)) (now (out .exit)) ⌝ }
+{
+    let stop = lesser(s.start + times(s.blocks, s.spacing), end);
+    let mut start = s.start;
+    let mut j = 0u64;
+    while start < stop {
+        mark_wide(
+            out,
+            (start - lo) as usize,
+            s.length as usize,
+            mark,
+            stairs,
+            width,
+        );
+        start += s.spacing;
+        j += 1;
+    }
+}
+
+// The same by the narrower of two widths that the length allows.
+fn mark_fitting(out: &mut [u8], lo: u64, end: u64, s: Series, mark: u8, stairs: &[u8; 128])
+    requires { ⌜ Small s × (lo ≤ s .start) × (s .length < s .spacing) × (s .length ≤ 32) × Room lo end (now out) ⌝ }
+    requires { ⌜ (1 ≤ mark) × (mark ≤ 2) × Stairs 32 (now stairs) ⌝ }
+    ensures { λ _. ⌜ Marked (end - lo) mark (λ i. holds s (lo + i)) (now (out .entry)) (now (out .exit)) ⌝ }
+{
+    if s.length <= 16 {
+        mark_ahead(out, lo, end, s, mark, stairs, 16);
+        return;
+    }
+    mark_ahead(out, lo, end, s, mark, stairs, 32);
+}
+
+// Of a series whose blocks lie apart, of at most 32 slots each, marks the block that started before lo and may not be over; the series that is
+// left, from lo on.
+fn mark_begun(out: &mut [u8], lo: u64, s: Series, mark: u8, stairs: &[u8; 128]) -> Series
+    requires { ⌜ Small s × (0 < s .blocks) × (s .length < s .spacing) × (s .length ≤ 32) × (lo < s .start + s .blocks * s .spacing) × (32 ≤ len (now out)) ⌝ }
+    requires { ⌜ (1 ≤ mark) × (mark ≤ 2) × Stairs 32 (now stairs) ⌝ }
+    ensures left { λ r. ⌜ Left lo s r ⌝ }
+    ensures marked { λ r. ⌜ Marked (len (now (out .entry))) mark (λ i. firstHold s (s .blocks - r .blocks) (lo + i)) (now (out .entry)) (now (out .exit)) ⌝ }
+{
+    if lo <= s.start {
+        return s;
+    }
+    let reaching = after(s, skipped(lo, s));
+    mark_short(out, lo, reaching.start, reaching.length, mark, stairs);
+    after(reaching, 1)
+}
+
+// Marks block after block.
+fn mark_each(out: &mut [u8], lo: u64, s: Series, mark: u8)
+    requires { ⌜ Small s ⌝ }
+    ensures { λ _. ⌜ Marked (len (now (out .entry))) mark (λ i. holds s (lo + i)) (now (out .entry)) (now (out .exit)) ⌝ }
+{
+    let mut start = s.start;
+    let mut j = 0;
+    while j < s.blocks {
+        mark_block(out, lo, start, s.length, mark);
+        start += s.spacing;
+        j += 1;
+    }
+}
+
+// Marks the blocks of a series. Those that touch or overlap are one run; a series that is over before lo is left before anything is divided.
+fn mark_series(out: &mut [u8], lo: u64, end: u64, s: Series, mark: u8, stairs: &[u8; 128])
+    requires { ⌜ Small s × Room lo end (now out) ⌝ }
+    requires { ⌜ (1 ≤ mark) × (mark ≤ 2) × Stairs 32 (now stairs) ⌝ }
+    ensures { λ _. ⌜ Marked (end - lo) mark (λ i. holds s (lo + i)) (now (out .entry)) (now (out .exit)) ⌝ }
+{
+    if s.blocks == 0 {
+        return;
+    }
+    let run = times(s.blocks - 1, s.spacing) + s.length;
+    if s.start + run <= lo {
+        return;
+    }
+    if s.spacing <= s.length {
+        mark_block(out, lo, s.start, run, mark);
+        return;
+    }
+    if 32 < s.length {
+        mark_each(out, lo, s, mark);
+        return;
+    }
+    let left = mark_begun(out, lo, s, mark, stairs);
+    mark_fitting(out, lo, end, left, mark, stairs);
+}
+
+// ---- the records
+
+// The mark of a record: 1 far, 2 near.
+fn mark_of(far: u8) -> u8
+    ensures { λ r. ⌜ r ≡ markOf far ⌝ }
+{
+    if far == 1 {
+        return 1;
+    }
+    2
+}
+
+// Marks a series of blocks in so many superframes of m1 slots, one after the other, up to the end.
+fn mark_superframes(
+    out: &mut [u8],
+    lo: u64,
+    end: u64,
+    m1: u64,
+    superframes: u64,
+    s: Series,
+    mark: u8,
+    stairs: &[u8; 128],
+)
+    requires { ⌜ Room lo end (now out) × (m1 ≤ 4294967295) × (superframes ≤ 255) × (s .start ≤ 4294967295) × (s .spacing ≤ 4294967295) × (s .blocks ≤ 255) × (s .length ≤ 255) ⌝ }
+    requires { ⌜ (1 ≤ mark) × (mark ≤ 2) × Stairs 32 (now stairs) ⌝ }
+    ensures { λ _. ⌜ Marked (end - lo) mark (λ i. holdsIn m1 superframes s (lo + i)) (now (out .entry)) (now (out .exit)) ⌝ }
+{
+    let mut start = s.start;
+    let mut k = 0;
+    while (k < superframes) & (start < end) {
+        let one = Series {
+            start,
+            spacing: s.spacing,
+            blocks: s.blocks,
+            length: s.length,
+        };
+        mark_series(out, lo, end, one, mark, stairs);
+        start += m1;
+        k += 1;
+    }
+}
+
+// Marks the slots that a record reserves. One that starts past the end or is over before lo is left by one test: apart, the first of two
+// would often be guessed wrong.
+fn mark_record(out: &mut [u8], lo: u64, end: u64, m1: u32, r: Rec, stairs: &[u8; 128])
+    requires { ⌜ Room lo end (now out) × Stairs 32 (now stairs) ⌝ }
+    ensures { λ _. ⌜ Marked (end - lo) (markOf (r .far)) (λ i. reserves m1 r (lo + i)) (now (out .entry)) (now (out .exit)) ⌝ }
+{
+    let m = m1 as u64;
+    let superframes = r.superframes as u64;
+    let s = Series {
+        start: r.first as u64,
+        spacing: quotient(m, r.rate as u64),
+        blocks: r.rate as u64,
+        length: r.length as u64,
+    };
+    let last = s.start + times(less(superframes, 1), m) + times(less(s.blocks, 1), s.spacing);
+    if lesser(last + s.length, end) <= larger(s.start, lo) {
+        return;
+    }
+    mark_superframes(out, lo, end, m, superframes, s, mark_of(r.far), stairs);
+}
+
+// For each mark 32 of it and 32 zeros: from the place 32 - n on stand n marks and then zeros.
+fn make_stairs() -> [u8; 128]
+    ensures { λ r. ⌜ Stairs 32 r ⌝ }
+{
+    let mut steps = [0u8; 128];
+    let mut i = 0;
+    while i < 32 {
+        steps[i] = 1;
+        steps[64 + i] = 2;
+        i += 1;
+    }
+    steps
+}
+
+// ---- the slot states of a window
+
+// Marks the slots that a record reserves, unless it is far and no slot is free: it changes nothing then.
+fn mark_needed(out: &mut [u8], lo: u64, end: u64, m1: u32, r: Rec, full: bool, stairs: &[u8; 128])
+    requires { ⌜ Room lo end (now out) × Stairs 32 (now stairs) × (full ≡ true → AtLeast (end - lo) 1 (now out)) ⌝ }
+    ensures { λ _. ⌜ Marked (end - lo) (markOf (r .far)) (λ i. reserves m1 r (lo + i)) (now (out .entry)) (now (out .exit)) ⌝ }
+{
+    let far = r.far == 1;
+    if full & far {
+        return;
+    }
+    mark_record(out, lo, end, m1, r, stairs);
+}
+
+// Marks the slots that the records from i up to n reserve.
+fn mark_some(
+    out: &mut [u8],
+    lo: u64,
+    end: u64,
+    m1: u32,
+    memory: &[u8],
+    i: usize,
+    n: usize,
+    full: bool,
+)
+    requires { ⌜ Room lo end (now out) × (n ≤ capacity (now memory)) × (full ≡ true → AtLeast (end - lo) 1 (now out)) ⌝ }
+    ensures { λ _. ⌜ Raised (end - lo) m1 (recordsFrom i n (now (memory .entry))) lo (now (out .entry)) (now (out .exit)) ⌝ }
+{
+    let stairs = make_stairs();
+    let mut k = i;
+    while k < n {
+        mark_needed(out, lo, end, m1, record::load(memory, k), full, &stairs);
+        k += 1;
+    }
+}
+
+// The first place from one on, below n, whose octet is below a mark; n where there is none.
+fn first_below(out: &[u8], from: usize, n: usize, mark: u8) -> usize
+    requires { ⌜ (from ≤ n) × (n ≤ len (now out)) × AtLeast from mark (now out) ⌝ }
+    ensures { λ r. ⌜ (r ≤ n) × AtLeast r mark (now (out .entry)) ⌝ }
+{
+    let mut i = from;
+    while i < n {
+        if out[i] < mark {
+            return i;
+        }
+        i += 1;
+    }
+    n
+}
+
+// Marks the first n octets by the records held, sixteen at a time. Once every slot is taken, no other record changes one.
+fn mark_records(out: &mut [u8], n: usize, s: State, memory: &[u8], first: u32)
+    requires { ⌜ n + 32 ≤ len (now out) ⌝ }
+    ensures { λ _. ⌜ Raised n (s .m1) (records (channel s (now (memory .entry)))) first (now (out .entry)) (now (out .exit)) ⌝ }
+{
+    let lo = first as u64;
+    let end = lo + n as u64;
+    let held = record::held_count(memory, s.count as usize);
+    let mut i = lesser(16, held as u64) as usize;
+    mark_some(out, lo, end, s.m1, memory, 0, i, false);
+    let mut taken = 0;
+    let mut reserved = 0;
+    while i < held {
+        taken = first_below(out, taken, n, 2);
+        if taken == n {
+            return;
+        }
+        reserved = first_below(out, larger(taken as u64, reserved as u64) as usize, n, 1);
+        let next = lesser(i as u64 + 16, held as u64) as usize;
+        mark_some(out, lo, end, s.m1, memory, i, next, reserved == n);
+        i = next;
+    }
+}
+
+// Raises each octet of a window to the number of its slot's state: out is the window, which begins at the slot first, and behind it 32 octets
+// of room, which a block that overhangs the window is marked into. They are 0 afterwards.
+pub fn raise(s: State, memory: &[u8], first: u32, out: &mut [u8])
+    ensures { λ _. ⌜ now (out .exit) ≡ zeroFrom (windowSlots (now (out .entry))) (raised (s .m1) (records (channel s (now (memory .entry)))) first (now (out .entry))) ⌝ }
+{
+    if out.len() < 32 {
+        octets::clear_from(out, 0);
+        return;
+    }
+    let n = out.len() - 32;
+    mark_records(out, n, s, memory, first);
+    octets::clear_from(out, n);
+}
+
+// The slot states of a window: each of its octets gets the number of its slot's state, however late the slot, and the room behind it zeros.
+pub fn states(s: State, memory: &[u8], first: u32, out: &mut [u8])
+    ensures { λ _. ⌜ now (out .exit) ≡ holdsOnly (len (now (out .entry))) (windowStates (s .m1) (records (channel s (now (memory .entry)))) first (windowSlots (now (out .entry)))) ⌝ }
+{
+    octets::clear_from(out, 0);
+    raise(s, memory, first, out);
 }
 
 // What this crate claims over its promises.

@@ -1,4 +1,4 @@
--- `search::search` meets its contract: what it is refused for, and else what the scan finds. Assumes nothing.
+-- `search::search` meets its contract: what it is refused for, and else what the look at the window finds. Assumes nothing.
 use Prim.Native.Nat.{ℕ}
 use native.Mathlib.Omega.{arith}
 use mathlib.Core.Path.{_≡_, refl, sym, ap, _∙_}
@@ -12,7 +12,7 @@ use Rattle.search.specs.declared.Query.{Query}
 use Rattle.search.specs.Search.{statesOf}
 use Rattle.search.specs.Steps.{WellAsked}
 use Rattle.search.proofs.Listed.{length-listed}
-use Rattle.search.proofs.Asked.{well-asked, asked, searchRefusal-unsound, searchRefusal-asked, refused-gives, none-gives, some-gives}
+use Rattle.search.proofs.Asked.{well-asked, fits-window, asked, searchRefusal-unsound, searchRefusal-asked, refused-gives, none-gives, some-gives}
 use Rattle.search.proofs.search.Statement.{statement}
 use Rattle.search.proofs.search.Tie as tie
 
@@ -48,7 +48,7 @@ module _ (c : tie.After-ask) where
   is-well-asked : c .ask .result ≡ 0 → WellAsked (query at-is-sound) (places at-is-sound)
   is-well-asked z = well-asked (given at-is-sound .m1) (given at-is-sound .now) (query at-is-sound) (places at-is-sound) (sym is-asked ∙ z)
 
-abbrev at-ask : tie.After-scan → tie.After-ask
+abbrev at-ask : tie.After-look-far → tie.After-ask
 at-ask c = c .before .before .before .before
 
 -- ---- the needs
@@ -77,15 +77,17 @@ returns c =
     let g = refused-gives (given a) (query a) (places a) (d .ask .result) refused some in
     (c .refuse .ensures ∙ g .0, at-wipe a .wipe .ensures ∙ g .1)
 
-slice-aggregate-scan : tie.Need-slice-aggregate-scan
-slice-aggregate-scan c = search needs
+slice-aggregate-look-far : tie.Need-slice-aggregate-look-far
+slice-aggregate-look-far c = search needs
 
-scan-requires : tie.Need-scan-requires
-scan-requires c κs =
+look-far-requires : tie.Need-look-far-requires
+look-far-requires c κs =
     let d = c .before .before .before in
     let w = at-wipe (at-is-sound d) .wipe in
     let p = is-well-asked d (c .before .before .if2 .left) in
-    ((rw (w .kept .0) p, p .few), (rw (w .kept .0) (w .ensures), refl))
+    let a = at-is-sound d in
+    let fits = fits-window (given a) (query a) (places a) (is-sound d) (sym (is-asked d) ∙ c .before .before .if2 .left) in
+    ((rw (w .kept .0) p, p .few, fits), (rw (w .kept .0) (w .ensures), refl))
 
 refuse-requires-2 : tie.Need-refuse-requires-2
 refuse-requires-2 c κs = search needs
@@ -99,15 +101,15 @@ returns-2 c =
     let d = at-ask x in
     let a = at-is-sound d in
     let passes = sym (is-asked d) ∙ x .before .before .before .if2 .left in
-    let g = none-gives (given a) (query a) (places a) (is-sound d) passes (sym (x .scan .ensures .0) ∙ c .before .if3 .taken) in
-    (c .refuse2 .ensures ∙ g .0, x .scan .ensures .1 ∙ rw (at-wipe a .wipe .kept .0) (g .1))
+    let g = none-gives (given a) (query a) (places a) (is-sound d) passes (sym (x .look-far .ensures .0) ∙ c .before .if3 .taken) in
+    (c .refuse2 .ensures ∙ g .0, x .look-far .ensures .1 ∙ rw (at-wipe a .wipe .kept .0) (g .1))
 
 cast-t18 : tie.Need-cast-t18
 cast-t18 c =
     let x = c .before .before .before .before in
     let a = at-is-sound (at-ask x) in
     let p = is-well-asked (at-ask x) (x .before .before .before .if2 .left) in
-    omega (arith, x .scan .ensures .0, length-listed (statesOf (tableOf (given a))) (query a), p .few)
+    omega (arith, x .look-far .ensures .0, length-listed (statesOf (tableOf (given a))) (query a), p .few)
 
 same-length-3 : tie.Need-same-length-3
 same-length-3 c = search needs
@@ -118,8 +120,8 @@ returns-3 c =
     let d = at-ask x in
     let a = at-is-sound d in
     let passes = sym (is-asked d) ∙ x .before .before .before .if2 .left in
-    let g = some-gives (given a) (query a) (places a) (is-sound d) passes (λ z. c .if3 .left (x .scan .ensures .0 ∙ z)) in
-    (rw (x .scan .ensures .0) (g .0), x .scan .ensures .1 ∙ rw (at-wipe a .wipe .kept .0) (g .1))
+    let g = some-gives (given a) (query a) (places a) (is-sound d) passes (λ z. c .if3 .left (x .look-far .ensures .0 ∙ z)) in
+    (rw (x .look-far .ensures .0) (g .0), x .look-far .ensures .1 ∙ rw (at-wipe a .wipe .kept .0) (g .1))
 
 refuse-requires-3 : tie.Need-refuse-requires-3
 refuse-requires-3 c κs = search needs
@@ -144,8 +146,8 @@ search-spec =
     refuse-requires
     same-length
     returns
-    slice-aggregate-scan
-    scan-requires
+    slice-aggregate-look-far
+    look-far-requires
     refuse-requires-2
     same-length-2
     returns-2

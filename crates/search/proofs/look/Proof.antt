@@ -1,0 +1,109 @@
+-- `search::look` meets its contract: the window's octets say the states that the records give. Assumes nothing.
+use Prim.Native.Nat.{ℕ, _+_, _-_, _≤_}
+use native.Mathlib.Omega.{arith}
+use mathlib.Core.Path.{_≡_, sym, ap, _∙_}
+use mathlib.Core.List.{List, _++_}
+use denote.Ref.{now}
+use lib.ListN.{length, take, drop, replicate, length-append, length-drop}
+use lib.Seq.{length-take-le}
+use borrow.Author.Needs.{needs}
+use Rattle.octets.specs.Octets.{zeroFrom, holdsOnly}
+use Rattle.sound.specs.Sound.{records}
+use Rattle.table.specs.Memory.{channel, tableOf}
+use Rattle.slots.specs.Slots.{slotState}
+use Rattle.slots.specs.Window.{windowStates, raised}
+use Rattle.slots.proofs.Window.{window-room}
+use Rattle.search.specs.Search.{listed}
+use Rattle.search.specs.Steps.{statesIn}
+use Rattle.search.proofs.ByOctets.{take-replicate, listed-window}
+use Rattle.search.proofs.look.Statement.{statement}
+use Rattle.search.proofs.look.Tie as tie
+
+-- how many octets of the window are lent
+abbrev lent : tie.Start → ℕ
+lent s = let q = s .args .q in q .hi - q .lo + q .length + 32
+
+-- so many it has
+lent-≤ : (s : tie.Start) → lent s ≤ length (now (s .args .window))
+lent-≤ s = omega (arith, s .pre .0 .0 .in-order, s .pre .0 .2)
+
+-- those are as many
+part : (s : tie.Start) → length (take (lent s) (now (s .args .window))) ≡ lent s
+part s = length-take-le (lent s) (now (s .args .window)) (lent-≤ s)
+
+abbrev entry : tie.After-raise → tie.Start
+entry c = c .before .before .before .before .before .before .before .before
+
+-- ---- the needs
+
+sub-n : tie.Need-sub-n
+sub-n c = search needs
+
+add-n : tie.Need-add-n
+add-n c = search needs
+
+cast-n : tie.Need-cast-n
+cast-n c = search needs
+
+add-n-2 : tie.Need-add-n-2
+add-n-2 c = search needs
+
+slice-relend-prefix-raise : tie.Need-slice-relend-prefix-raise
+slice-relend-prefix-raise c = search needs
+
+slice-aggregate-raise : tie.Need-slice-aggregate-raise
+slice-aggregate-raise c = sym (part (c .before .before .before .before .before .before .before))
+
+raise-requires : tie.Need-raise-requires
+raise-requires c κs = search needs
+
+scan-requires : tie.Need-scan-requires
+scan-requires c κs =
+    let x = c .before .before .before .before .before in
+    let s = entry x in
+    let w = now (s .args .window) in
+    let long : length (x .raise .last .1 .1 .1 .0 ++ drop (lent s) w) ≡ length w =
+    rw (length-append, length-drop) (omega (arith, x .raise .kept .1 .1 .1 .0, part s, lent-≤ s)) in
+    ((s .pre .0 .0, s .pre .0 .1, omega (arith, long, s .pre .0 .2)), (s .pre .1 .0, s .pre .1 .1))
+
+same-length : tie.Need-same-length
+same-length c = search needs
+
+same-length-2 : tie.Need-same-length-2
+same-length-2 c = search needs
+
+same-length-3 : tie.Need-same-length-3
+same-length-3 c = search needs
+
+returns : tie.Need-returns
+unfolding tableOf
+returns c =
+    let y = c .before .before .before .before in
+    let x = y .before .before .before .before .before .before in
+    let s = entry x in
+    let a = s .args in
+    let n = lent s in
+    let rs = records (channel (a .s) (now (a .memory))) in
+    let rest = drop n (now (a .window)) in
+    let wiped : take n (now (a .window)) ≡ replicate n 0 = ap (take n) (s .pre .1 .2) ∙ take-replicate n (length (now (a .window)) - 0) (omega (arith, lent-≤ s)) in
+    let e : x .raise .last .1 .1 .1 .0 ≡ holdsOnly n (windowStates (a .s .m1) rs (a .q .lo) (n - 32)) =
+    x .raise .ensures ∙ rw (part s) (ap (λ (ys : List ℕ). zeroFrom (n - 32) (raised (a .s .m1) rs (a .q .lo) ys)) wiped) ∙ window-room (a .s .m1) rs (a .q .lo) n in
+    let l = ap (λ (xs : List ℕ). listed (statesIn (xs ++ rest) (a .q .lo)) (a .q)) e ∙ listed-window (slotState (a .s .m1) rs) (a .q) (n - 32) n rest (omega arith) in
+    (y .scan .ensures .0 ∙ ap length l, y .scan .ensures .1 ∙ ap (holdsOnly (length (now (a .list)))) l)
+
+pub look-spec : {M : Type 1} → statement M
+look-spec =
+    tie.close
+    (tie.spec
+    sub-n
+    add-n
+    cast-n
+    add-n-2
+    slice-relend-prefix-raise
+    slice-aggregate-raise
+    raise-requires
+    scan-requires
+    same-length
+    same-length-2
+    same-length-3
+    returns)

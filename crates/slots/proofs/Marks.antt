@@ -1,0 +1,59 @@
+-- Laws of `Marked` and of marks. Assumes nothing.
+use Prim.Native.Nat.{ℕ, _<_, _≤_, max}
+use native.Mathlib.Omega.{arith}
+use mathlib.Core.Path.{_≡_, refl, _∙_}
+use mathlib.Core.Bool.{Bool, true, false, cond, _||_}
+use mathlib.Core.List.{List}
+use lib.Dec.{eqb}
+use lib.ListN.{length, getD, set}
+use lib.Seq.{getD-set-same, getD-set-other}
+use borrow.Author.Tests.{eqb-true, eqb-false}
+use Rattle.slots.specs.Steps.{markOf, Marked}
+
+-- within fewer octets
+pub marked-within : (n : ℕ) {m mark : ℕ} {p : ℕ → Bool} {xs ys : List ℕ} → Marked m mark p xs ys → n ≤ m → Marked n mark p xs ys
+marked-within n m h = record { at = λ i l. m .at i (omega arith) }
+
+module _ {n mark : ℕ} where
+  -- no place passes
+  pub marked-none : (p : ℕ → Bool) (xs : List ℕ) → ((i : ℕ) → i < n → p i ≡ false) → Marked n mark p xs xs
+  marked-none p xs h = record { at = λ i l. rw (h i l) }
+
+  -- tests that agree
+  pub marked-agree : {p : ℕ → Bool} (q : ℕ → Bool) {xs ys : List ℕ} → Marked n mark p xs ys → ((i : ℕ) → i < n → p i ≡ q i) → Marked n mark q xs ys
+  marked-agree q m h = record { at = λ i l. rw (← h i l) (m .at i l) }
+
+  -- marked once and then again
+  pub marked-more : {p q : ℕ → Bool} {xs ys zs : List ℕ} → Marked n mark p xs ys → Marked n mark q ys zs → Marked n mark (λ i. p i || q i) xs zs
+  marked-more {p} {q} {xs} a b =
+      record { at = λ i l. b .at i l ∙ rw (a .at i l) (go (p i) (q i) (getD xs i 0)) }
+    where
+      go : (s t : Bool) (x : ℕ) → cond t (max (cond s (max x mark) x) mark) (cond s (max x mark) x) ≡ cond (s || t) (max x mark) x
+      go true true x = omega arith
+      go true false x = refl
+      go false true x = refl
+      go false false x = refl
+
+-- one octet more, raised to the mark or to 0
+pub marked-set : {mark : ℕ} {p : ℕ → Bool} (q : ℕ → Bool) {xs ys : List ℕ} (i w : ℕ) → Marked (length xs) mark p xs ys → length ys ≡ length xs → i < length xs
+    → p i ≡ false → ((k : ℕ) → (k ≡ i → ⊥) → p k ≡ q k) → w ≡ cond (q i) mark 0 → Marked (length xs) mark q xs (set ys i (max (getD ys i 0) w))
+marked-set {mark} {p} q {xs} {ys} i w m e l h f g = record { at = λ k n. go k n (eqb k i) refl }
+  where
+    raised : (t : Bool) (x : ℕ) → max x (cond t mark 0) ≡ cond t (max x mark) x
+    raised true x = refl
+    raised false x = omega arith
+
+    same : max (getD ys i 0) w ≡ cond (q i) (max (getD xs i 0) mark) (getD xs i 0)
+    same = let v : getD ys i 0 ≡ getD xs i 0 = rw h at (m .at i l) in rw (v, g) (raised (q i) (getD xs i 0))
+
+    go : (k : ℕ) → k < length xs → (t : Bool) → eqb k i ≡ t → getD (set ys i (max (getD ys i 0) w)) k 0 ≡ cond (q k) (max (getD xs k 0) mark) (getD xs k 0)
+    go k n true d = rw (eqb-true k i d) (getD-set-same ys i (max (getD ys i 0) w) 0 (omega arith) ∙ same)
+    go k n false d = getD-set-other ys i k (max (getD ys i 0) w) 0 (eqb-false k i d) ∙ rw (← f k (eqb-false k i d)) (m .at k n)
+
+-- a mark is 1 or 2
+pub mark-some : (far : ℕ) → (1 ≤ markOf far) × (markOf far ≤ 2)
+mark-some far = go (eqb far 1)
+  where
+    go : (b : Bool) → (1 ≤ cond b 1 2) × (cond b 1 2 ≤ 2)
+    go true = (omega arith, omega arith)
+    go false = (omega arith, omega arith)

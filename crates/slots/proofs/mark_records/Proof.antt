@@ -1,0 +1,173 @@
+-- `slots::mark_records` meets its contract: by the records so far and those to come each octet is what it is to be. Assumes nothing.
+use Prim.Native.Nat.{ℕ, _+_, _-_, _≤_}
+use native.Mathlib.Omega.{arith}
+use mathlib.Core.Path.{_≡_, sym, ap, _∙_}
+use mathlib.Core.Bool.{false≢true}
+use mathlib.Core.List.{List}
+use denote.Ref.{now}
+use lib.ListN.{length, take}
+use borrow.Author.Needs.{needs}
+use borrow.Author.Tests.{eqb-true}
+use Rattle.record.specs.declared.Rec.{Rec}
+use Rattle.sound.specs.Sound.{records}
+use Rattle.table.specs.Memory.{channel}
+use Rattle.slots.specs.Steps.{recordsFrom, Raised}
+use Rattle.slots.proofs.SoFar.{SoFar, so-far-none, so-far-next, so-far-all, so-far-taken, reserved-too, raised-parts}
+use Rattle.slots.proofs.mark_records.Statement.{statement}
+use Rattle.slots.proofs.mark_records.Tie as tie
+
+abbrev Inv-loop : tie.InvT-loop
+Inv-loop out₀ n s memory first lo end held i₀ taken₀ reserved₀ out i taken reserved =
+    SoFar n (s .m1) first i₀ held memory out₀ out i taken reserved
+
+abbrev μ-loop : tie.MeasureT-loop
+μ-loop out₀ n s memory first lo end held i₀ taken₀ reserved₀ out i taken reserved = held - i
+
+-- ---- the places of what is known
+
+abbrev at-first : tie.At-loop Inv-loop μ-loop → tie.After-mark-some Inv-loop μ-loop
+at-first h = h .before .before .before
+
+abbrev at-least : tie.At-loop Inv-loop μ-loop → tie.After-lesser Inv-loop μ-loop
+at-least h = at-first h .before .before
+
+abbrev at-held : tie.At-loop Inv-loop μ-loop → tie.After-held-count Inv-loop μ-loop
+at-held h = at-least h .before
+
+abbrev entry : tie.At-loop Inv-loop μ-loop → tie.Start Inv-loop μ-loop
+entry h = at-held h .before .before .before .before
+
+abbrev at-test : tie.After-lesser2 Inv-loop μ-loop → tie.In-loop Inv-loop μ-loop
+at-test l = l .before .before .before .before .before .before .before
+
+abbrev at-loop : tie.After-lesser2 Inv-loop μ-loop → tie.At-loop Inv-loop μ-loop
+at-loop l = at-test l .before
+
+-- what the first records marked, and then those after them: together those that the table holds
+held-all : (h : tie.At-loop Inv-loop μ-loop) {ys : List ℕ}
+    → let x = at-first h in
+    let a = entry h .args in
+    Raised (a .n) (a .s .m1) (recordsFrom (at-least h .lesser .result) (at-held h .held-count .result) (now (a .memory))) (a .first) (x .mark-some .last .0) ys
+    → Raised (a .n) (a .s .m1) (records (channel (a .s) (now (a .memory)))) (a .first) (now (a .out)) ys
+unfolding records
+held-all h r =
+    let x = at-first h in
+    let l = at-least h .lesser in
+    let n = at-held h .held-count in
+    rw (n .ensures .2) at (raised-parts {xs = now (entry h .args .out)} {ys = x .mark-some .last .0} 0 (l .result) (n .result) (now (entry h .args .memory)) (omega arith) (omega (arith, l .ensures)) (n .ensures .1) (record { at = λ j b. x .mark-some .ensures .at j (omega arith) }) r)
+
+-- ---- the needs
+
+add-end : tie.Need-add-end Inv-loop μ-loop
+add-end c = search needs
+
+cast-held-count : tie.Need-cast-held-count Inv-loop μ-loop
+cast-held-count c = search needs
+
+held-count-requires : tie.Need-held-count-requires Inv-loop μ-loop
+held-count-requires c κs = search needs
+
+lesser-requires : tie.Need-lesser-requires Inv-loop μ-loop
+lesser-requires c κs = search needs
+
+mark-some-requires : tie.Need-mark-some-requires Inv-loop μ-loop
+mark-some-requires c κs =
+    let l = c .before in
+    let h = l .before in (
+      record { ahead = omega arith; behind = omega (arith, h .before .before .before .before .pre) },
+      omega (arith, l .lesser .ensures, h .held-count .ensures .1),
+      λ e. absurd (false≢true e),
+    )
+
+loop-holds : tie.Need-loop-holds Inv-loop μ-loop
+loop-holds c =
+    let l = c .before .before .before .before in
+    so-far-none (omega (arith, l .lesser .ensures))
+
+first-below-requires : tie.Need-first-below-requires Inv-loop μ-loop
+first-below-requires c κs = search needs
+
+same-length : tie.Need-same-length Inv-loop μ-loop
+same-length c = search needs
+
+returns : tie.Need-returns Inv-loop μ-loop
+returns c =
+    let h = c .before .before .before .before in
+    let f = c .before .first-below in
+    held-all h (so-far-taken (h .loop .inv) (record { at = λ j b. f .ensures .1 .at j (omega (arith, c .if1 .taken)) }))
+
+larger-requires : tie.Need-larger-requires Inv-loop μ-loop
+larger-requires c κs = search needs
+
+first-below-requires-2 : tie.Need-first-below-requires-2 Inv-loop μ-loop
+first-below-requires-2 c κs =
+    let t = c .before .before .before .first-below in
+    let h = c .before .before .before .before .before .before in
+    let inv = h .loop .inv in (
+      omega (arith, c .larger .ensures, t .ensures .0, inv .reserved-≤),
+      omega (arith, entry h .pre, inv .same),
+      reserved-too (h .loop .reserved) (t .ensures .1) (inv .reserved-all) (c .larger .ensures),
+    )
+
+add-lesser : tie.Need-add-lesser Inv-loop μ-loop
+add-lesser c = search needs
+
+lesser-requires-2 : tie.Need-lesser-requires-2 Inv-loop μ-loop
+lesser-requires-2 c κs = search needs
+
+mark-some-requires-2 : tie.Need-mark-some-requires-2 Inv-loop μ-loop
+mark-some-requires-2 c κs =
+    let l = c .before in
+    let r = l .before .first-below2 in
+    let h = at-loop l in
+    let e = entry h in (
+      record { ahead = omega arith; behind = omega (arith, e .pre, h .loop .inv .same) },
+      omega (arith, l .lesser2 .ensures, at-held h .held-count .ensures .1),
+      λ f. record { at = λ j b. r .ensures .1 .at j (omega (arith, eqb-true (r .result) (e .args .n) f)) },
+    )
+
+loop-less : tie.Need-loop-less Inv-loop μ-loop
+loop-less c = search needs
+
+loop-again : tie.Need-loop-again Inv-loop μ-loop
+loop-again c =
+    let x = c .before .before in
+    let l = x .before .before in
+    let h = at-loop l in
+    let r = l .before .first-below2 in
+    let t = l .before .before .before .before .before .first-below in
+    so-far-next (h .loop .inv) (l .lesser2 .result) (at-held h .held-count .ensures .1) (omega (arith, l .lesser2 .ensures, at-test l .loop-test .taken))
+    (omega (arith, l .lesser2 .ensures)) (x .mark-some2 .kept .0)
+    (t .ensures .0) (t .ensures .1) (r .ensures .0) (r .ensures .1)
+    (record { at = λ j b. x .mark-some2 .ensures .at j (omega arith) })
+
+same-length-2 : tie.Need-same-length-2 Inv-loop μ-loop
+same-length-2 c = search needs
+
+returns-2 : tie.Need-returns-2 Inv-loop μ-loop
+returns-2 c = held-all (c .before) (so-far-all (c .before .loop .inv) (c .loop-test .left))
+
+pub mark-records-spec : {M : Type 1} → statement M
+mark-records-spec =
+    tie.close
+    (tie.spec
+    Inv-loop
+    μ-loop
+    add-end
+    cast-held-count
+    held-count-requires
+    lesser-requires
+    mark-some-requires
+    loop-holds
+    first-below-requires
+    same-length
+    returns
+    larger-requires
+    first-below-requires-2
+    add-lesser
+    lesser-requires-2
+    mark-some-requires-2
+    loop-less
+    loop-again
+    same-length-2
+    returns-2)
