@@ -76,6 +76,7 @@ extern "C" {
 #define GEMTHATCH_MILES_MAX 4096.0          /* a range, or a part of an offset, beyond this is never far; also the highest reuse limit */
 #define GEMTHATCH_LIMIT_DEFAULT 150.0       /* the technical manual's default reuse limit, its Q2a */
 #define GEMTHATCH_TALLY_MAX 4294967295u     /* where each count of a tally stops */
+#define GEMTHATCH_SEARCH_STACK 17408u       /* octets of stack that a search needs at most */
 
 /* ---- answers and refusals ----------------------------------------------------------------------------------------------------------- */
 
@@ -336,6 +337,7 @@ GEMTHATCH_MUST_USE uint32_t gemthatch_slot_state(const uint8_t *memory, size_t o
  * accordingly.
  * The state of each slot is asked over all records: on a full table a whole superframe takes from under a millisecond to a tenth of a
  * second.
+ * A search needs at most GEMTHATCH_SEARCH_STACK octets of stack, which a thread with a small one has to have left.
  * Returns the number found, 1..wanted. Refused, in this order: 11, 19, 9 length, 20, 1 list shorter than wanted, 21 none found.
  */
 GEMTHATCH_MUST_USE uint32_t gemthatch_search(const uint8_t *memory, size_t octets, uint32_t m1, uint32_t now, uint32_t count, uint32_t lo,

@@ -5,6 +5,7 @@ use std::hint::black_box;
 use std::time::{Duration, Instant};
 
 use super::archive::{self, number};
+use super::c;
 use super::figures::{three_digits, time, Figures, Side, ROUNDS};
 use super::tables::{Kind, Setting, Table};
 use crate::draw::Draw;
@@ -93,7 +94,7 @@ fn time_batch<A, R>(inputs: &[Input<A>], lent: &mut [Lent], program: &impl Progr
 fn compare<A, R: Copy + Debug + PartialEq>(
     inputs: &[Input<A>],
     archive: &impl Program<A, R>,
-    plain: &impl Program<A, R>,
+    peer: &impl Program<A, R>,
     meant: impl Fn(R) -> bool,
 ) -> Result<usize, String> {
     let start = Instant::now();
@@ -102,10 +103,10 @@ fn compare<A, R: Copy + Debug + PartialEq>(
             return Ok(place);
         }
         let (mut one, mut other) = (Lent::to(input), Lent::to(input));
-        let (given, expected) = (archive(&mut one, input), plain(&mut other, input));
+        let (given, expected) = (archive(&mut one, input), peer(&mut other, input));
         if given != expected {
             return Err(format!(
-                "input {place}: archive {given:?}, plain {expected:?}"
+                "input {place}: archive {given:?}, peer {expected:?}"
             ));
         }
         if one != other {
@@ -122,11 +123,11 @@ fn compare<A, R: Copy + Debug + PartialEq>(
 fn measure<A, R: Copy + Debug + PartialEq>(
     inputs: &[Input<A>],
     archive: impl Program<A, R>,
-    plain: impl Program<A, R>,
+    peer: impl Program<A, R>,
     meant: impl Fn(R) -> bool,
 ) -> Result<Figures, String> {
     let start = Instant::now();
-    let compared = compare(inputs, &archive, &plain, meant)?;
+    let compared = compare(inputs, &archive, &peer, meant)?;
     let inputs = &inputs[..compared];
     let size = match start.elapsed() > LONG * compared as u32 {
         true => 1,
@@ -138,7 +139,7 @@ fn measure<A, R: Copy + Debug + PartialEq>(
         let batch = &inputs[start..start + size];
         match side {
             Side::Archive => time_batch(batch, &mut lent, &archive),
-            Side::Plain => time_batch(batch, &mut lent, &plain),
+            Side::Peer => time_batch(batch, &mut lent, &peer),
         }
     }))
 }
@@ -325,7 +326,18 @@ fn slot_state_dividing(setting: Setting) -> Result<Figures, String> {
     slot_state(setting, plain::slot_state_dividing)
 }
 
-fn search(setting: Setting, range: impl Fn(&Table, &mut Draw) -> Range) -> Result<Figures, String> {
+/// A search's peer, with its answer in the archive's form.
+type SearchPeer = fn(&[u8], State, &Range, &mut [u8]) -> u32;
+
+fn search_plain(memory: &[u8], state: State, range: &Range, list: &mut [u8]) -> u32 {
+    number(plain::search(memory, state, range, list))
+}
+
+fn search(
+    setting: Setting,
+    peer: SearchPeer,
+    range: impl Fn(&Table, &mut Draw) -> Range,
+) -> Result<Figures, String> {
     let inputs = inputs(setting, |table, draw| {
         let range = range(&table, draw);
         Input {
@@ -336,36 +348,30 @@ fn search(setting: Setting, range: impl Fn(&Table, &mut Draw) -> Range) -> Resul
     measure(
         &inputs,
         |lent, input| archive::search(&lent.memory, input.state, &input.asked, &mut lent.list),
-        |lent, input| {
-            number(plain::search(
-                &lent.memory,
-                input.state,
-                &input.asked,
-                &mut lent.list,
-            ))
-        },
+        |lent, input| peer(&lent.memory, input.state, &input.asked, &mut lent.list),
         |answer| accepted(answer) || answer == REFUSED + 21,
     )
 }
 
-fn search_whole(setting: Setting) -> Result<Figures, String> {
-    search(setting, |table, _| Range {
+/// Anywhere in the next superframe.
+fn search_some(setting: Setting, peer: SearchPeer, starts: u32) -> Result<Figures, String> {
+    search(setting, peer, |table, draw| {
+        let lo = table.now + draw.below(setting.m1 - starts);
+        Range {
+            lo,
+            hi: lo + starts - 1,
+            length: 3,
+            wanted: starts.min(3),
+        }
+    })
+}
+
+fn search_whole(setting: Setting, peer: SearchPeer) -> Result<Figures, String> {
+    search(setting, peer, |table, _| Range {
         lo: table.now,
         hi: table.now + setting.m1 - 1,
         length: 32,
         wanted: 16,
-    })
-}
-
-fn search_small(setting: Setting) -> Result<Figures, String> {
-    search(setting, |table, draw| {
-        let lo = table.now + draw.below(setting.m1 - 100);
-        Range {
-            lo,
-            hi: lo + 99,
-            length: 3,
-            wanted: 3,
-        }
     })
 }
 
@@ -408,7 +414,7 @@ fn record_at(setting: Setting) -> Result<Figures, String> {
 
 type Bench = fn(Setting) -> Result<Figures, String>;
 
-const CALLS: [(&str, Bench); 13] = [
+const CALLS: [(&str, Bench); 19] = [
     ("open", open),
     ("reserve, new", reserve_new),
     ("reserve, held", reserve_held),
@@ -418,30 +424,38 @@ const CALLS: [(&str, Bench); 13] = [
     ("clock, none goes", clock_none),
     ("slot state / in turn", slot_state_in_turn),
     ("slot state / dividing", slot_state_dividing),
-    ("search, whole", search_whole),
-    ("search, small", search_small),
+    ("search 1 / plain", |s| search_some(s, search_plain, 1)),
+    ("search 1 / C", |s| search_some(s, c::search, 1)),
+    ("search 10 / plain", |s| search_some(s, search_plain, 10)),
+    ("search 10 / C", |s| search_some(s, c::search, 10)),
+    ("search 100 / plain", |s| search_some(s, search_plain, 100)),
+    ("search 100 / C", |s| search_some(s, c::search, 100)),
+    ("search whole / plain", |s| search_whole(s, search_plain)),
+    ("search whole / C", |s| search_whole(s, c::search)),
     ("record at", record_at),
     ("replay step", replay_step),
 ];
 
-/// Prints the ratios of a call, and gives the worst of them on full tables. Adds
-/// a note on those that come from fewer rounds than the others.
-fn rows(name: &str, bench: Bench, notes: &mut Vec<String>) -> Result<f64, String> {
-    let mut worst = 0.0_f64;
-    for capacity in CAPACITIES {
+/// Prints the ratios of a call, and gives the worst of them on tables of each
+/// capacity. Adds a note on those that come from fewer rounds than the others.
+fn rows(
+    name: &str,
+    bench: Bench,
+    notes: &mut Vec<String>,
+) -> Result<[f64; CAPACITIES.len()], String> {
+    let mut worst = [0.0_f64; CAPACITIES.len()];
+    for (capacity, worst) in CAPACITIES.into_iter().zip(&mut worst) {
         for kind in Kind::ALL {
             // What an opening finds makes no difference.
             if name == "open" && kind != Kind::ALL[0] {
                 continue;
             }
             let kind_name = kind.name();
-            let mut line = format!("| {name:<21} | {capacity:>7} | {kind_name:<6} |");
+            let mut line = format!("| {name:<21} | {capacity:>7} | {kind_name:<9} |");
             for m1 in M1S {
                 let figures = bench(Setting { kind, capacity, m1 })
                     .map_err(|error| format!("{line} M1 {m1}: {error}"))?;
-                if capacity == FULL {
-                    worst = worst.max(figures.ratio);
-                }
+                *worst = worst.max(figures.ratio);
                 if figures.rounds < ROUNDS {
                     notes.push(format!(
                         "{name}, {capacity} records, {kind_name}, M1 {m1}: {} rounds",
@@ -459,8 +473,8 @@ fn rows(name: &str, bench: Bench, notes: &mut Vec<String>) -> Result<f64, String
 pub fn table() -> Result<(), String> {
     println!("Calls on a table, at two lengths of the superframe:\n");
     println!(
-        "| {:<21} | records | {:<6} | {:>8} | {:>8} | {:>5} | {:>8} | {:>8} | {:>5} |",
-        "call", "table", "M1 4500", "plain", "ratio", "M1 15360", "plain", "ratio"
+        "| {:<21} | records | {:<9} | {:>8} | {:>8} | {:>5} | {:>8} | {:>8} | {:>5} |",
+        "call", "table", "M1 4500", "peer", "ratio", "M1 15360", "peer", "ratio"
     );
     println!("|---|---:|---|---:|---:|---:|---:|---:|---:|");
     let (mut worst, mut notes) = (Vec::new(), Vec::new());
@@ -471,11 +485,13 @@ pub fn table() -> Result<(), String> {
         println!("\nToo long for all {ROUNDS} rounds, and for all tables:\n");
         notes.iter().for_each(|note| println!("- {note}"));
     }
-    println!("\nThe worst ratio of each call on full tables:\n");
-    println!("| {:<21} | {:>5} |", "call", "ratio");
-    println!("|---|---:|");
-    for (name, ratio) in worst {
-        println!("| {name:<21} | {:>5} |", three_digits(ratio));
+    println!("\nThe worst ratio of each call, by the records of the table:\n");
+    let columns = CAPACITIES.map(|capacity| format!(" {capacity:>5} |"));
+    println!("| {:<21} |{}", "call", columns.concat());
+    println!("|---|{}", "---:|".repeat(CAPACITIES.len()));
+    for (name, ratios) in worst {
+        let ratios = ratios.map(|ratio| format!(" {:>5} |", three_digits(ratio)));
+        println!("| {name:<21} |{}", ratios.concat());
     }
     Ok(())
 }

@@ -49,7 +49,7 @@ fn measure<I: Copy + PartialEq, A: PartialEq>(
             Side::Archive => lent.iter_mut().for_each(|input| {
                 black_box(&archive(black_box(input)));
             }),
-            Side::Plain => lent.iter_mut().for_each(|input| {
+            Side::Peer => lent.iter_mut().for_each(|input| {
                 black_box(&plain(black_box(input)));
             }),
         })

@@ -17,14 +17,14 @@ const LONGEST: Duration = Duration::from_secs(4);
 #[derive(Clone, Copy)]
 pub enum Side {
     Archive,
-    Plain,
+    Peer,
 }
 
 /// Nanoseconds of one call on both sides, and the ratio of them.
 #[derive(Clone, Copy)]
 pub struct Figures {
     pub archive: f64,
-    pub plain: f64,
+    pub peer: f64,
     pub ratio: f64,
     /// How many rounds there were.
     pub rounds: usize,
@@ -50,27 +50,27 @@ impl Figures {
             if rounds.len() >= FEWEST_ROUNDS && start.elapsed() > LONGEST {
                 break;
             }
-            let (mut archive, mut plain, mut done) = (0.0, 0.0, 0.0);
-            while archive + plain < ROUND {
+            let (mut archive, mut peer, mut done) = (0.0, 0.0, 0.0);
+            while archive + peer < ROUND {
                 let number = numbers.next().unwrap();
                 if round % 2 == 0 {
                     archive += batch(Side::Archive, number) - nothing;
-                    plain += batch(Side::Plain, number) - nothing;
+                    peer += batch(Side::Peer, number) - nothing;
                 } else {
-                    plain += batch(Side::Plain, number) - nothing;
+                    peer += batch(Side::Peer, number) - nothing;
                     archive += batch(Side::Archive, number) - nothing;
                 }
                 done += calls as f64;
             }
             // The first round warms up.
             if round > 0 {
-                rounds.push([archive / done, plain / done, archive / plain]);
+                rounds.push([archive / done, peer / done, archive / peer]);
             }
         }
         let middle = |part: usize| median(rounds.iter().map(|round| round[part]).collect());
         Figures {
             archive: middle(0),
-            plain: middle(1),
+            peer: middle(1),
             ratio: middle(2),
             rounds: rounds.len(),
         }
@@ -100,8 +100,8 @@ fn shown(nanoseconds: f64) -> String {
 /// Three cells of a table.
 impl fmt::Display for Figures {
     fn fmt(&self, f: &mut fmt::Formatter) -> fmt::Result {
-        let (archive, plain) = (shown(self.archive), shown(self.plain));
+        let (archive, peer) = (shown(self.archive), shown(self.peer));
         let ratio = three_digits(self.ratio);
-        write!(f, "{archive:>8} | {plain:>8} | {ratio:>5}")
+        write!(f, "{archive:>8} | {peer:>8} | {ratio:>5}")
     }
 }

@@ -1,6 +1,7 @@
 //! Times, not checks: what was built beside peers written by hand.
 
 mod archive;
+mod c;
 mod calls;
 mod codec;
 mod figures;

@@ -16,10 +16,19 @@ pub enum Kind {
     /// As many blocks as there can be, all near and of one slot, on the same
     /// few slots: nearly all others are free.
     Comb,
+    /// The same on so many slots that no longest block is free.
+    Staggered,
 }
 
 impl Kind {
-    pub const ALL: [Kind; 5] = [Kind::Near, Kind::Far, Kind::Mixed, Kind::Sparse, Kind::Comb];
+    pub const ALL: [Kind; 6] = [
+        Kind::Near,
+        Kind::Far,
+        Kind::Mixed,
+        Kind::Sparse,
+        Kind::Comb,
+        Kind::Staggered,
+    ];
 
     pub fn name(self) -> &'static str {
         match self {
@@ -28,6 +37,7 @@ impl Kind {
             Kind::Mixed => "mixed",
             Kind::Sparse => "sparse",
             Kind::Comb => "comb",
+            Kind::Staggered => "staggered",
         }
     }
 }
@@ -39,6 +49,9 @@ pub struct Setting {
     pub capacity: usize,
     pub m1: u32,
 }
+
+/// Slots in a block at most.
+const LONGEST_BLOCK: u32 = 32;
 
 /// Stations in a table, each with its share of the records.
 const STATIONS: usize = 16;
@@ -74,18 +87,23 @@ impl Table {
             first: 0,
             rate: 1 + draw.below(60),
             superframes: 1 + draw.below(3),
-            length: 1 + draw.below(32),
+            length: 1 + draw.below(LONGEST_BLOCK),
             far: u8::from(kind == Kind::Far || kind == Kind::Mixed && draw.below(2) == 0),
         };
         if kind == Kind::Sparse {
             (record.rate, record.superframes, record.length) = (1, 1, 1);
         }
-        if kind == Kind::Comb {
+        if kind == Kind::Comb || kind == Kind::Staggered {
             (record.rate, record.superframes, record.length) = (60, 3, 1);
         }
+        let spacing = m1 / record.rate;
         record.first = match kind {
             Kind::Sparse => self.now + draw.below(m1),
-            Kind::Comb => self.now - m1 / 60 * draw.below(60),
+            Kind::Comb => self.now - spacing * draw.below(60),
+            Kind::Staggered => {
+                let offsets = spacing.div_ceil(LONGEST_BLOCK);
+                self.now - spacing * draw.below(60) + spacing / offsets * draw.below(offsets)
+            }
             _ => self.now + 255 - draw.below(256 + record.last(m1)),
         };
         record

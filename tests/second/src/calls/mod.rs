@@ -16,6 +16,7 @@ mod soundness;
 mod sweep;
 mod tallies;
 mod walks;
+mod windows;
 
 use std::fmt::Debug;
 
@@ -53,6 +54,26 @@ pub fn check(report: &mut Report) {
     add("histories of any size", histories::of_any_size);
     add("sound tables", searches::tables);
     add("large sound tables", searches::large);
+    add("windows at the ends of time", windows::at_the_ends_of_time);
+    add("windows of each size", windows::of_each_size);
+    add(
+        "windows with one record that matters",
+        windows::with_one_record_that_matters,
+    );
+    add(
+        "windows all far but for one record",
+        windows::all_far_but_one,
+    );
+    add(
+        "windows at the ends of blocks",
+        windows::at_the_ends_of_blocks,
+    );
+    add("windows where blocks touch", windows::where_blocks_touch);
+    add("windows between held slots", windows::between_held_slots);
+    add(
+        "windows in small superframes",
+        windows::in_small_superframes,
+    );
     add("every M1 and rate", sweep::check);
     add("demand 3", demand_3::check);
     add("demand 3's premise", demand_3::premise);

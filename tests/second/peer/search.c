@@ -1,0 +1,274 @@
+/*
+ * The search in plain C: what a careful programmer writes for speed with the archive's checks in the archive's order. An octet to a slot is
+ * marked record by record, and then gone along. It reads numbers as x86-64 has them in memory. There are no intrinsics: of loops over a fixed
+ * number of octets the compiler makes vectors.
+ */
+#include <stddef.h>
+#include <stdint.h>
+#include <string.h>
+
+enum {
+    RECORD = 12,
+    MOST_RECORDS = 2048,
+    MOST_RATE = 60,
+    MOST_LENGTH = 32,
+    MOST_WANTED = 16,
+    MOST_BS = 255,
+    STEP = 60,
+    LONGEST = 15360,
+    LAST_SLOT = 1000000000,
+    REFUSED = 2000000000
+};
+
+enum { FREE, REUSABLE, TAKEN };
+
+typedef struct {
+    const uint8_t *memory;
+    size_t octets;
+    uint32_t m1, now, count;
+} Table;
+
+typedef struct {
+    uint32_t lo, hi, length, wanted;
+} Query;
+
+typedef struct {
+    uint32_t station, first, rate, superframes, length, far;
+} Record;
+
+static inline uint32_t number_at(const uint8_t *octets)
+{
+    uint32_t number;
+    memcpy(&number, octets, sizeof number);
+    return number;
+}
+
+static inline uint32_t smaller(uint32_t a, uint32_t b)
+{
+    return a < b ? a : b;
+}
+
+static inline uint32_t larger(uint32_t a, uint32_t b)
+{
+    return a < b ? b : a;
+}
+
+/* Field by field: a record copied as a whole goes over the stack. */
+static inline Record record_at(const Table *table, uint32_t i)
+{
+    const uint8_t *at = table->memory + (size_t)i * RECORD;
+    const Record record = { number_at(at), number_at(at + 4), at[8], at[9], at[10], at[11] };
+    return record;
+}
+
+/* One past the last slot of a record. A single block is not divided for. */
+static inline uint32_t past(const Record *record, uint32_t m1, uint32_t spacing)
+{
+    return record->first + (record->superframes - 1) * m1 + (record->rate - 1) * spacing + record->length;
+}
+
+/* ---- soundness -------------------------------------------------------------------------------------------------------------------------- */
+
+static inline int is_within(uint32_t lo, uint32_t hi, uint32_t x)
+{
+    return (x >= lo) & (x <= hi);
+}
+
+/* The ranges are tested together, so that there is one branch to a record. */
+static inline int is_good(const Record *record, uint32_t m1, uint32_t now)
+{
+    const int in_range = (record->station < 1u << 27) & (record->first <= LAST_SLOT + MOST_BS) & is_within(1, MOST_RATE, record->rate) &
+                         is_within(1, 3, record->superframes) & is_within(1, MOST_LENGTH, record->length) & (record->far <= 1);
+    return in_range && now < past(record, m1, m1 / record->rate);
+}
+
+static int is_sound(const Table *table)
+{
+    const size_t capacity = table->octets / RECORD;
+    if (table->octets % RECORD != 0 || capacity < 1 || capacity > MOST_RECORDS || table->m1 < STEP || table->m1 > LONGEST ||
+        table->m1 % STEP != 0 || table->now > LAST_SLOT || table->count > capacity)
+        return 0;
+    for (uint32_t i = 0; i < table->count; i++) {
+        const Record record = record_at(table, i);
+        if (!is_good(&record, table->m1, table->now))
+            return 0;
+    }
+    uint32_t seen = 0;
+    for (size_t at = (size_t)table->count * RECORD; at < table->octets; at += sizeof seen)
+        seen |= number_at(table->memory + at);
+    return seen == 0;
+}
+
+/* ---- the marks -------------------------------------------------------------------------------------------------------------------------- */
+
+/* Behind the window there is room for a block that overhangs it: a block is always marked in a fixed number of octets. */
+enum { ROOM = MOST_LENGTH, WIDE = MOST_LENGTH, NARROW = MOST_LENGTH / 2, MOST_SLOTS = LONGEST + MOST_LENGTH - 1 };
+
+/* How many records are marked between two looks whether any more are needed. */
+enum { BETWEEN_LOOKS = 16 };
+
+typedef struct {
+    uint8_t *marks;
+    uint32_t lo, end;
+} Window;
+
+/* A block's marks and then none, for a block of each length: they begin so many octets before the end of the marks. */
+#define MARKS_8(mark) mark, mark, mark, mark, mark, mark, mark, mark
+#define MARKS_32(mark) MARKS_8(mark), MARKS_8(mark), MARKS_8(mark), MARKS_8(mark)
+static const uint8_t stairs[2][2 * MOST_LENGTH] = { { MARKS_32(TAKEN) }, { MARKS_32(REUSABLE) } };
+
+static inline void raise(uint8_t *restrict marks, const uint8_t *restrict to, size_t octets)
+{
+    for (size_t i = 0; i < octets; i++)
+        marks[i] = marks[i] < to[i] ? to[i] : marks[i];
+}
+
+static inline void mark_blocks(Window w, uint32_t start, uint32_t stop, uint32_t spacing, const uint8_t *stair, size_t octets)
+{
+    for (; start < stop; start += spacing)
+        raise(w.marks + (start - w.lo), stair, octets);
+}
+
+/* The blocks of one superframe, of which the last is over at a slot. */
+static inline void mark_superframe(Window w, const Record *record, uint32_t start, uint32_t over, uint32_t spacing)
+{
+    const uint8_t *stair = stairs[record->far] + MOST_LENGTH - record->length;
+    const uint32_t stop = smaller(over, w.end);
+    if (spacing <= record->length) {
+        /* Blocks that touch are one run. */
+        for (uint32_t slot = larger(start, w.lo); slot < stop; slot++)
+            raise(w.marks + (slot - w.lo), stair, 1);
+        return;
+    }
+    if (start < w.lo) {
+        /* The last block that began before the window, as far as it reaches into it. */
+        start += (w.lo - start) / spacing * spacing;
+        const uint32_t gone = smaller(w.lo - start, record->length);
+        raise(w.marks, stair + gone, WIDE);
+        start += spacing;
+    }
+    if (record->length <= NARROW)
+        mark_blocks(w, start, stop, spacing, stair, NARROW);
+    else
+        mark_blocks(w, start, stop, spacing, stair, WIDE);
+}
+
+static inline void mark(Window w, const Record *record, uint32_t m1)
+{
+    const uint32_t spacing = record->rate == 1 ? m1 : m1 / record->rate;
+    /* One test, and no branch by which side of the window a record lies on: it would often be guessed wrong. */
+    if (smaller(past(record, m1, spacing), w.end) <= larger(record->first, w.lo))
+        return;
+    uint32_t start = record->first;
+    for (uint32_t k = 0; k < record->superframes && start < w.end; k++, start += m1) {
+        const uint32_t over = start + (record->rate - 1) * spacing + record->length;
+        if (over > w.lo)
+            mark_superframe(w, record, start, over, spacing);
+    }
+}
+
+/* Marks the window, until all of it is taken. Once no slot is free, far records change nothing. */
+static void mark_window(const Table *table, Window w)
+{
+    const uint32_t slots = w.end - w.lo;
+    uint32_t taken = 0, held = 0;
+    memset(w.marks, FREE, slots + ROOM);
+    for (uint32_t i = 0; i < table->count;) {
+        if (i > 0) {
+            while (taken < slots && w.marks[taken] == TAKEN)
+                taken++;
+            if (taken == slots)
+                return;
+            held = larger(held, taken);
+            while (held < slots && w.marks[held] != FREE)
+                held++;
+        }
+        for (const uint32_t look = smaller(i + BETWEEN_LOOKS, table->count); i < look; i++) {
+            const Record record = record_at(table, i);
+            if (!((held == slots) & record.far))
+                mark(w, &record, table->m1);
+        }
+    }
+}
+
+/* ---- the search ------------------------------------------------------------------------------------------------------------------------- */
+
+/* What a search has found: free starts, and reusable ones in case there are too few. */
+typedef struct {
+    uint32_t free[MOST_WANTED], reusable[MOST_WANTED];
+    uint32_t frees, reusables;
+} Starts;
+
+/* How many slots of a block, from its last back, have a state below one. */
+static inline uint32_t run_below(const uint8_t *block, uint32_t length, uint8_t state)
+{
+    uint32_t run = 0;
+    while (run < length && block[length - 1 - run] < state)
+        run++;
+    return run;
+}
+
+static void go_along(const uint8_t *marks, const Query *query, Starts *starts)
+{
+    const uint32_t many = query->hi - query->lo + 1, length = query->length;
+    for (uint32_t at = 0; at < many;) {
+        /* Once there are enough reusable starts only free ones count. No block that holds a slot beyond can be used: the next is behind it. */
+        const uint8_t below = starts->reusables == query->wanted ? REUSABLE : TAKEN;
+        const uint32_t run = run_below(marks + at, length, below);
+        if (run < length) {
+            at += length - run;
+            continue;
+        }
+        /* Then slot by slot, as long as it goes. */
+        uint32_t free = run_below(marks + at, length, REUSABLE);
+        for (;;) {
+            if (free >= length) {
+                starts->free[starts->frees++] = query->lo + at;
+                if (starts->frees == query->wanted)
+                    return;
+            } else {
+                starts->reusable[starts->reusables++] = query->lo + at;
+            }
+            at++;
+            const uint8_t state = marks[at + length - 1];
+            if (at == many || state >= below || starts->reusables == query->wanted)
+                break;
+            free = state == FREE ? free + 1 : 0;
+        }
+    }
+}
+
+static uint32_t refusal(const Table *table, const Query *query, size_t list_octets)
+{
+    if (!is_sound(table))
+        return 11;
+    if (query->lo < table->now || query->lo > query->hi || query->hi > LAST_SLOT || query->hi - query->lo >= table->m1)
+        return 19;
+    if (query->length < 1 || query->length > MOST_LENGTH)
+        return 9;
+    if (query->wanted < 1 || query->wanted > MOST_WANTED)
+        return 20;
+    return list_octets / 4 < query->wanted ? 1 : 0;
+}
+
+uint32_t peer_search(const uint8_t *memory, size_t octets, uint32_t m1, uint32_t now, uint32_t count, uint32_t lo, uint32_t hi,
+                     uint32_t length, uint32_t wanted, uint8_t *list, size_t list_octets)
+{
+    const Table table = { memory, octets, m1, now, count };
+    const Query query = { lo, hi, length, wanted };
+    memset(list, 0, list_octets);
+    const uint32_t refused = refusal(&table, &query, list_octets);
+    if (refused != 0)
+        return REFUSED + refused;
+    uint8_t marks[MOST_SLOTS + ROOM];
+    mark_window(&table, (Window){ marks, lo, hi + length });
+    Starts starts;
+    starts.frees = starts.reusables = 0;
+    go_along(marks, &query, &starts);
+    const uint32_t found = smaller(starts.frees + starts.reusables, wanted);
+    if (found == 0)
+        return REFUSED + 21;
+    memcpy(list, starts.free, 4 * starts.frees);
+    memcpy(list + 4 * starts.frees, starts.reusable, 4 * (found - starts.frees));
+    return found;
+}
