@@ -42,6 +42,14 @@ fn put_numbers(list: &[u32]) {
     }
 }
 
+fn put_octets(list: &[u8]) {
+    let mut i = 0;
+    while i < list.len() {
+        put_number(list[i] as u64);
+        i += 1;
+    }
+}
+
 fn put_refused(n: u32) {
     put(b" refused");
     put_number(n as u64);
@@ -308,6 +316,22 @@ fn put_near_and_far() {
     put(b"\n");
 }
 
+// The numbers of the slots 104 to 110 around T's first block, by one call, in octets that held something else.
+fn put_window(name: &[u8], distance: Distance) {
+    let mut memory = [0u8; record::SIZE];
+    let s = reserve_t(&mut memory, distance);
+    let mut octets = [7u8; 7 + 32];
+    slots::states(s, &memory, 104, &mut octets);
+    put(name);
+    put_octets(&octets[..7]);
+}
+
+fn put_windows() {
+    put_window(b"slots 104 to 110, near:", Distance::Unknown);
+    put_window(b", far:", Distance::Range(LIMIT));
+    put(b"\n");
+}
+
 fn put_example() {
     let mut memory = [0u8; record::SIZE];
     let s = reserve_alone(&mut memory, 4500, 90, request_blocks(3, 10, 10));
@@ -327,5 +351,6 @@ fn main() {
     put_spacing(b"M1 60, rate 7:", 60, 7);
     put_spacing(b"M1 4500, rate 8:", 4500, 8);
     put_near_and_far();
+    put_windows();
     put_example();
 }

@@ -1,4 +1,4 @@
--- Laws of `Marked` and of marks. Assumes nothing.
+-- Laws of `MarkedWhere` and of marks. Assumes nothing.
 use Prim.Native.Nat.{ℕ, _<_, _≤_, max}
 use native.Mathlib.Omega.{arith}
 use mathlib.Core.Path.{_≡_, refl, _∙_}
@@ -8,23 +8,23 @@ use lib.Dec.{eqb}
 use lib.ListN.{length, getD, set}
 use lib.Seq.{getD-set-same, getD-set-other}
 use borrow.Author.Tests.{eqb-true, eqb-false}
-use Rattle.slots.specs.Steps.{markOf, Marked}
+use Rattle.slots.specs.Steps.{markOf, MarkedWhere}
 
 -- within fewer octets
-pub marked-within : (n : ℕ) {m mark : ℕ} {p : ℕ → Bool} {xs ys : List ℕ} → Marked m mark p xs ys → n ≤ m → Marked n mark p xs ys
+pub marked-within : (n : ℕ) {m mark : ℕ} {p : ℕ → Bool} {xs ys : List ℕ} → MarkedWhere m mark p xs ys → n ≤ m → MarkedWhere n mark p xs ys
 marked-within n m h = record { at = λ i l. m .at i (omega arith) }
 
 module _ {n mark : ℕ} where
   -- no place passes
-  pub marked-none : (p : ℕ → Bool) (xs : List ℕ) → ((i : ℕ) → i < n → p i ≡ false) → Marked n mark p xs xs
+  pub marked-none : (p : ℕ → Bool) (xs : List ℕ) → ((i : ℕ) → i < n → p i ≡ false) → MarkedWhere n mark p xs xs
   marked-none p xs h = record { at = λ i l. rw (h i l) }
 
   -- tests that agree
-  pub marked-agree : {p : ℕ → Bool} (q : ℕ → Bool) {xs ys : List ℕ} → Marked n mark p xs ys → ((i : ℕ) → i < n → p i ≡ q i) → Marked n mark q xs ys
+  pub marked-agree : {p : ℕ → Bool} (q : ℕ → Bool) {xs ys : List ℕ} → MarkedWhere n mark p xs ys → ((i : ℕ) → i < n → p i ≡ q i) → MarkedWhere n mark q xs ys
   marked-agree q m h = record { at = λ i l. rw (← h i l) (m .at i l) }
 
   -- marked once and then again
-  pub marked-more : {p q : ℕ → Bool} {xs ys zs : List ℕ} → Marked n mark p xs ys → Marked n mark q ys zs → Marked n mark (λ i. p i || q i) xs zs
+  pub marked-more : {p q : ℕ → Bool} {xs ys zs : List ℕ} → MarkedWhere n mark p xs ys → MarkedWhere n mark q ys zs → MarkedWhere n mark (λ i. p i || q i) xs zs
   marked-more {p} {q} {xs} a b =
       record { at = λ i l. b .at i l ∙ rw (a .at i l) (go (p i) (q i) (getD xs i 0)) }
     where
@@ -35,8 +35,8 @@ module _ {n mark : ℕ} where
       go false false x = refl
 
 -- one octet more, raised to the mark or to 0
-pub marked-set : {mark : ℕ} {p : ℕ → Bool} (q : ℕ → Bool) {xs ys : List ℕ} (i w : ℕ) → Marked (length xs) mark p xs ys → length ys ≡ length xs → i < length xs
-    → p i ≡ false → ((k : ℕ) → (k ≡ i → ⊥) → p k ≡ q k) → w ≡ cond (q i) mark 0 → Marked (length xs) mark q xs (set ys i (max (getD ys i 0) w))
+pub marked-set : {mark : ℕ} {p : ℕ → Bool} (q : ℕ → Bool) {xs ys : List ℕ} (i w : ℕ) → MarkedWhere (length xs) mark p xs ys → length ys ≡ length xs → i < length xs
+    → p i ≡ false → ((k : ℕ) → (k ≡ i → ⊥) → p k ≡ q k) → w ≡ cond (q i) mark 0 → MarkedWhere (length xs) mark q xs (set ys i (max (getD ys i 0) w))
 marked-set {mark} {p} q {xs} {ys} i w m e l h f g = record { at = λ k n. go k n (eqb k i) refl }
   where
     raised : (t : Bool) (x : ℕ) → max x (cond t mark 0) ≡ cond t (max x mark) x

@@ -6,7 +6,7 @@ use mathlib.Core.Bool.{Bool, true, false, _&&_, _||_, and-true, and-false}
 use lib.Dec.{leb, ltb}
 use borrow.Author.Tests.{leb-true, leb-false, ltb-true, ltb-false, le-leb, lt-ltb, le-ltb}
 use Rattle.series.specs.Series.{inBlock}
-use Rattle.slots.specs.Steps.{between}
+use Rattle.slots.specs.Steps.{fromUpTo}
 
 -- a test that cannot pass fails
 pub fails : (a : Bool) → (a ≡ true → ⊥) → a ≡ false
@@ -27,9 +27,9 @@ pub ltb-same : (a b c d : ℕ) → (a < b → c < d) → (c < d → a < b) → l
 ltb-same a b c d f g = agree (ltb a b) (ltb c d) (λ h. lt-ltb c d (f (ltb-true a b h))) (λ h. lt-ltb a b (g (ltb-true c d h)))
 
 -- the places of a window from lo on that a block holds
-pub between-block : (lo start length n i : ℕ) → i < n → between (start - lo) (min (start + length - lo) n) i ≡ inBlock start length (lo + i)
+pub fromUpTo-block : (lo start length n i : ℕ) → i < n → fromUpTo (start - lo) (min (start + length - lo) n) i ≡ inBlock start length (lo + i)
 unfolding inBlock
-between-block lo start length n i l =
+fromUpTo-block lo start length n i l =
     rw (
       leb-same (start - lo) i start (lo + i) (λ h. omega arith) (λ h. omega arith),
       ltb-same i (min (start + length - lo) n) (lo + i) (start + length) (λ h. omega arith) (λ h. omega arith),
@@ -73,8 +73,8 @@ block-join a l b m slot h k e = go (leb a slot) (ltb slot (a + l)) (leb b slot) 
 
 module _ (from : ℕ) where
   -- at its start
-  pub between-none : (k : ℕ) → between from from k ≡ false
-  between-none k = go (leb from k) refl
+  pub fromUpTo-none : (k : ℕ) → fromUpTo from from k ≡ false
+  fromUpTo-none k = go (leb from k) refl
     where
       go : (t : Bool) → leb from k ≡ t → (t && ltb k from) ≡ false
       go true e = le-ltb k from (leb-true from k e)
@@ -82,20 +82,20 @@ module _ (from : ℕ) where
 
   module _ (i : ℕ) (l : from ≤ i) where
     -- the place that is next
-    pub between-at : between from i i ≡ false
-    between-at = rw (le-ltb i i (omega arith)) (and-false (leb from i))
+    pub fromUpTo-at : fromUpTo from i i ≡ false
+    fromUpTo-at = rw (le-ltb i i (omega arith)) (and-false (leb from i))
 
     -- is the last one then
-    pub between-in : between from (i + 1) i ≡ true
-    between-in = rw (le-leb from i l, lt-ltb i (i + 1) (omega arith))
+    pub fromUpTo-in : fromUpTo from (i + 1) i ≡ true
+    fromUpTo-in = rw (le-leb from i l, lt-ltb i (i + 1) (omega arith))
 
     -- and no other changes
-    pub between-other : (k : ℕ) → (k ≡ i → ⊥) → between from i k ≡ between from (i + 1) k
-    between-other k d = rw (ltb-same k i k (i + 1) (λ h. omega arith) (λ h. omega arith))
+    pub fromUpTo-other : (k : ℕ) → (k ≡ i → ⊥) → fromUpTo from i k ≡ fromUpTo from (i + 1) k
+    fromUpTo-other k d = rw (ltb-same k i k (i + 1) (λ h. omega arith) (λ h. omega arith))
 
     -- at its end
-    pub between-all : (to k : ℕ) → to ≤ i → i ≤ max from to → between from i k ≡ between from to k
-    between-all to k h m = go (leb from k) refl
+    pub fromUpTo-all : (to k : ℕ) → to ≤ i → i ≤ max from to → fromUpTo from i k ≡ fromUpTo from to k
+    fromUpTo-all to k h m = go (leb from k) refl
       where
         go : (t : Bool) → leb from k ≡ t → (t && ltb k i) ≡ (t && ltb k to)
         go true e = let f = leb-true from k e in ltb-same k i k to (λ g. omega arith) (λ g. omega arith)

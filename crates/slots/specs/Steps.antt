@@ -67,7 +67,7 @@ abbrev pub markOf : ℕ → ℕ
 markOf far = cond (eqb far 1) 1 2
 
 -- of the first n octets those at the places that pass are raised to the mark, and the others are as they were
-pub record Marked (n mark : ℕ) (p : ℕ → Bool) (xs ys : List ℕ) : Type 0 where
+pub record MarkedWhere (n mark : ℕ) (p : ℕ → Bool) (xs ys : List ℕ) : Type 0 where
   pub at : (i : ℕ) → i < n → getD ys i 0 ≡ cond (p i) (max (getD xs i 0) mark) (getD xs i 0)
 
 -- the first n octets are at a mark or above it
@@ -75,11 +75,11 @@ pub record AtLeast (n mark : ℕ) (xs : List ℕ) : Type 0 where
   pub at : (i : ℕ) → i < n → mark ≤ getD xs i 0
 
 -- a place from one up to another
-abbrev pub between : ℕ → ℕ → ℕ → Bool
-between from to i = leb from i && ltb i to
+abbrev pub fromUpTo : ℕ → ℕ → ℕ → Bool
+fromUpTo from to i = leb from i && ltb i to
 
 -- the window from lo up to an end, and 32 octets more
-pub record Room (lo end : ℕ) (out : List ℕ) : Type 0 where
+pub record WindowFits (lo end : ℕ) (out : List ℕ) : Type 0 where
   pub ahead : lo ≤ end
   pub behind : end + 32 ≤ lo + length out
 

@@ -12,7 +12,7 @@ ghost use Rattle.sound.specs.Sound.{records};
 ghost use Rattle.table.specs.Memory.{channel};
 ghost use Rattle.slots.specs.Slots.{slotState, slotAnswer};
 ghost use Rattle.slots.specs.Window.{windowStates, windowSlots, raised};
-ghost use Rattle.slots.specs.Steps.{holdsMore, markOf, firstHold, holds, holdsIn, after, recordsFrom, Small, Skips, Left, Marked, between, Room, Stairs, Raised, AtLeast};
+ghost use Rattle.slots.specs.Steps.{holdsMore, markOf, firstHold, holds, holdsIn, after, recordsFrom, Small, Skips, Left, MarkedWhere, fromUpTo, WindowFits, Stairs, Raised, AtLeast};
 ghost use Rattle.slots.specs.Claims.{Claims};
 
 // A slot's state.
@@ -151,7 +151,7 @@ fn quotient(x: u64, d: u64) -> u64
 // Marks the octets from a place up to another.
 fn mark_run(out: &mut [u8], from: usize, to: usize, mark: u8)
     requires { ⌜ to ≤ len (now out) ⌝ }
-    ensures { λ _. ⌜ Marked (len (now (out .entry))) mark (between from to) (now (out .entry)) (now (out .exit)) ⌝ }
+    ensures { λ _. ⌜ MarkedWhere (len (now (out .entry))) mark (fromUpTo from to) (now (out .entry)) (now (out .exit)) ⌝ }
 {
     let mut i = from;
     while i < to {
@@ -163,7 +163,7 @@ fn mark_run(out: &mut [u8], from: usize, to: usize, mark: u8)
 // Marks those slots of a block that lie in the window from lo on.
 fn mark_block(out: &mut [u8], lo: u64, start: u64, length: u64, mark: u8)
     requires { ⌜ (start ≤ 4398046511104) × (length ≤ 4398046511104) ⌝ }
-    ensures { λ _. ⌜ Marked (len (now (out .entry))) mark (λ i. inBlock start length (lo + i)) (now (out .entry)) (now (out .exit)) ⌝ }
+    ensures { λ _. ⌜ MarkedWhere (len (now (out .entry))) mark (λ i. inBlock start length (lo + i)) (now (out .entry)) (now (out .exit)) ⌝ }
 {
     let n = out.len() as u64;
     let from = less(start, lo);
@@ -175,7 +175,7 @@ fn mark_block(out: &mut [u8], lo: u64, start: u64, length: u64, mark: u8)
 // block to 0.
 fn mark_wide(out: &mut [u8], at: usize, length: usize, mark: u8, stairs: &[u8; 128], width: usize)
     requires { ⌜ (at + 32 ≤ len (now out)) × (length ≤ width) × (width ≤ 32) × (1 ≤ mark) × (mark ≤ 2) × Stairs 32 (now stairs) ⌝ }
-    ensures { λ _. ⌜ Marked (len (now (out .entry))) mark (inBlock at length) (now (out .entry)) (now (out .exit)) ⌝ }
+    ensures { λ _. ⌜ MarkedWhere (len (now (out .entry))) mark (inBlock at length) (now (out .entry)) (now (out .exit)) ⌝ }
 {
     let step = mark as usize * 64 - 32 - length;
     let mut d = 0;
@@ -189,7 +189,7 @@ fn mark_wide(out: &mut [u8], at: usize, length: usize, mark: u8, stairs: &[u8; 1
 fn mark_short(out: &mut [u8], lo: u64, start: u64, length: u64, mark: u8, stairs: &[u8; 128])
     requires { ⌜ (start ≤ 4398046511104) × (32 ≤ len (now out)) × (start + 32 ≤ lo + len (now out)) × (length ≤ 32) ⌝ }
     requires { ⌜ (1 ≤ mark) × (mark ≤ 2) × Stairs 32 (now stairs) ⌝ }
-    ensures { λ _. ⌜ Marked (len (now (out .entry))) mark (λ i. inBlock start length (lo + i)) (now (out .entry)) (now (out .exit)) ⌝ }
+    ensures { λ _. ⌜ MarkedWhere (len (now (out .entry))) mark (λ i. inBlock start length (lo + i)) (now (out .entry)) (now (out .exit)) ⌝ }
 {
     let at = less(start, lo);
     let left = less(start + length, lo) - at;
@@ -230,9 +230,9 @@ fn mark_ahead(
     stairs: &[u8; 128],
     width: usize,
 )
-    requires { ⌜ Small s × (lo ≤ s .start) × (s .length < s .spacing) × (s .length ≤ width) × (width ≤ 32) × Room lo end (now out) ⌝ }
+    requires { ⌜ Small s × (lo ≤ s .start) × (s .length < s .spacing) × (s .length ≤ width) × (width ≤ 32) × WindowFits lo end (now out) ⌝ }
     requires { ⌜ (1 ≤ mark) × (mark ≤ 2) × Stairs 32 (now stairs) ⌝ }
-    ensures { λ _. ⌜ Marked (end - lo) mark (λ i. holds s (lo + i)) (now (out .entry)) (now (out .exit)) ⌝ }
+    ensures { λ _. ⌜ MarkedWhere (end - lo) mark (λ i. holds s (lo + i)) (now (out .entry)) (now (out .exit)) ⌝ }
 {
     let stop = lesser(s.start + times(s.blocks, s.spacing), end);
     let mut start = s.start;
@@ -253,9 +253,9 @@ fn mark_ahead(
 
 // The same by the narrower of two widths that the length allows.
 fn mark_fitting(out: &mut [u8], lo: u64, end: u64, s: Series, mark: u8, stairs: &[u8; 128])
-    requires { ⌜ Small s × (lo ≤ s .start) × (s .length < s .spacing) × (s .length ≤ 32) × Room lo end (now out) ⌝ }
+    requires { ⌜ Small s × (lo ≤ s .start) × (s .length < s .spacing) × (s .length ≤ 32) × WindowFits lo end (now out) ⌝ }
     requires { ⌜ (1 ≤ mark) × (mark ≤ 2) × Stairs 32 (now stairs) ⌝ }
-    ensures { λ _. ⌜ Marked (end - lo) mark (λ i. holds s (lo + i)) (now (out .entry)) (now (out .exit)) ⌝ }
+    ensures { λ _. ⌜ MarkedWhere (end - lo) mark (λ i. holds s (lo + i)) (now (out .entry)) (now (out .exit)) ⌝ }
 {
     if s.length <= 16 {
         mark_ahead(out, lo, end, s, mark, stairs, 16);
@@ -270,7 +270,7 @@ fn mark_begun(out: &mut [u8], lo: u64, s: Series, mark: u8, stairs: &[u8; 128]) 
     requires { ⌜ Small s × (0 < s .blocks) × (s .length < s .spacing) × (s .length ≤ 32) × (lo < s .start + s .blocks * s .spacing) × (32 ≤ len (now out)) ⌝ }
     requires { ⌜ (1 ≤ mark) × (mark ≤ 2) × Stairs 32 (now stairs) ⌝ }
     ensures left { λ r. ⌜ Left lo s r ⌝ }
-    ensures marked { λ r. ⌜ Marked (len (now (out .entry))) mark (λ i. firstHold s (s .blocks - r .blocks) (lo + i)) (now (out .entry)) (now (out .exit)) ⌝ }
+    ensures marked { λ r. ⌜ MarkedWhere (len (now (out .entry))) mark (λ i. firstHold s (s .blocks - r .blocks) (lo + i)) (now (out .entry)) (now (out .exit)) ⌝ }
 {
     if lo <= s.start {
         return s;
@@ -283,7 +283,7 @@ fn mark_begun(out: &mut [u8], lo: u64, s: Series, mark: u8, stairs: &[u8; 128]) 
 // Marks block after block.
 fn mark_each(out: &mut [u8], lo: u64, s: Series, mark: u8)
     requires { ⌜ Small s ⌝ }
-    ensures { λ _. ⌜ Marked (len (now (out .entry))) mark (λ i. holds s (lo + i)) (now (out .entry)) (now (out .exit)) ⌝ }
+    ensures { λ _. ⌜ MarkedWhere (len (now (out .entry))) mark (λ i. holds s (lo + i)) (now (out .entry)) (now (out .exit)) ⌝ }
 {
     let mut start = s.start;
     let mut j = 0;
@@ -296,9 +296,9 @@ fn mark_each(out: &mut [u8], lo: u64, s: Series, mark: u8)
 
 // Marks the blocks of a series. Those that touch or overlap are one run; a series that is over before lo is left before anything is divided.
 fn mark_series(out: &mut [u8], lo: u64, end: u64, s: Series, mark: u8, stairs: &[u8; 128])
-    requires { ⌜ Small s × Room lo end (now out) ⌝ }
+    requires { ⌜ Small s × WindowFits lo end (now out) ⌝ }
     requires { ⌜ (1 ≤ mark) × (mark ≤ 2) × Stairs 32 (now stairs) ⌝ }
-    ensures { λ _. ⌜ Marked (end - lo) mark (λ i. holds s (lo + i)) (now (out .entry)) (now (out .exit)) ⌝ }
+    ensures { λ _. ⌜ MarkedWhere (end - lo) mark (λ i. holds s (lo + i)) (now (out .entry)) (now (out .exit)) ⌝ }
 {
     if s.blocks == 0 {
         return;
@@ -342,9 +342,9 @@ fn mark_superframes(
     mark: u8,
     stairs: &[u8; 128],
 )
-    requires { ⌜ Room lo end (now out) × (m1 ≤ 4294967295) × (superframes ≤ 255) × (s .start ≤ 4294967295) × (s .spacing ≤ 4294967295) × (s .blocks ≤ 255) × (s .length ≤ 255) ⌝ }
+    requires { ⌜ WindowFits lo end (now out) × (m1 ≤ 4294967295) × (superframes ≤ 255) × (s .start ≤ 4294967295) × (s .spacing ≤ 4294967295) × (s .blocks ≤ 255) × (s .length ≤ 255) ⌝ }
     requires { ⌜ (1 ≤ mark) × (mark ≤ 2) × Stairs 32 (now stairs) ⌝ }
-    ensures { λ _. ⌜ Marked (end - lo) mark (λ i. holdsIn m1 superframes s (lo + i)) (now (out .entry)) (now (out .exit)) ⌝ }
+    ensures { λ _. ⌜ MarkedWhere (end - lo) mark (λ i. holdsIn m1 superframes s (lo + i)) (now (out .entry)) (now (out .exit)) ⌝ }
 {
     let mut start = s.start;
     let mut k = 0;
@@ -364,8 +364,8 @@ fn mark_superframes(
 // Marks the slots that a record reserves. One that starts past the end or is over before lo is left by one test: apart, the first of two
 // would often be guessed wrong.
 fn mark_record(out: &mut [u8], lo: u64, end: u64, m1: u32, r: Rec, stairs: &[u8; 128])
-    requires { ⌜ Room lo end (now out) × Stairs 32 (now stairs) ⌝ }
-    ensures { λ _. ⌜ Marked (end - lo) (markOf (r .far)) (λ i. reserves m1 r (lo + i)) (now (out .entry)) (now (out .exit)) ⌝ }
+    requires { ⌜ WindowFits lo end (now out) × Stairs 32 (now stairs) ⌝ }
+    ensures { λ _. ⌜ MarkedWhere (end - lo) (markOf (r .far)) (λ i. reserves m1 r (lo + i)) (now (out .entry)) (now (out .exit)) ⌝ }
 {
     let m = m1 as u64;
     let superframes = r.superframes as u64;
@@ -400,8 +400,8 @@ fn make_stairs() -> [u8; 128]
 
 // Marks the slots that a record reserves, unless it is far and no slot is free: it changes nothing then.
 fn mark_needed(out: &mut [u8], lo: u64, end: u64, m1: u32, r: Rec, full: bool, stairs: &[u8; 128])
-    requires { ⌜ Room lo end (now out) × Stairs 32 (now stairs) × (full ≡ true → AtLeast (end - lo) 1 (now out)) ⌝ }
-    ensures { λ _. ⌜ Marked (end - lo) (markOf (r .far)) (λ i. reserves m1 r (lo + i)) (now (out .entry)) (now (out .exit)) ⌝ }
+    requires { ⌜ WindowFits lo end (now out) × Stairs 32 (now stairs) × (full ≡ true → AtLeast (end - lo) 1 (now out)) ⌝ }
+    ensures { λ _. ⌜ MarkedWhere (end - lo) (markOf (r .far)) (λ i. reserves m1 r (lo + i)) (now (out .entry)) (now (out .exit)) ⌝ }
 {
     let far = r.far == 1;
     if full & far {
@@ -421,7 +421,7 @@ fn mark_some(
     n: usize,
     full: bool,
 )
-    requires { ⌜ Room lo end (now out) × (n ≤ capacity (now memory)) × (full ≡ true → AtLeast (end - lo) 1 (now out)) ⌝ }
+    requires { ⌜ WindowFits lo end (now out) × (n ≤ capacity (now memory)) × (full ≡ true → AtLeast (end - lo) 1 (now out)) ⌝ }
     ensures { λ _. ⌜ Raised (end - lo) m1 (recordsFrom i n (now (memory .entry))) lo (now (out .entry)) (now (out .exit)) ⌝ }
 {
     let stairs = make_stairs();

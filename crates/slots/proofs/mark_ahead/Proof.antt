@@ -7,7 +7,7 @@ use native.Mathlib.Nat.{lt-of-mul-lt-mul-right, mul-lt-mul-of-pos-right, eq-or-l
 use denote.Ref.{now}
 use lib.ListN.{length}
 use borrow.Author.Needs.{needs}
-use Rattle.slots.specs.Steps.{firstHold, holds, Marked}
+use Rattle.slots.specs.Steps.{firstHold, holds, MarkedWhere}
 use Rattle.slots.proofs.Tests.{block-shift}
 use Rattle.slots.proofs.Marks.{marked-none, marked-agree, marked-more, marked-within}
 use Rattle.slots.proofs.Blocks.{someBelow-none, first-next, holds-past}
@@ -16,7 +16,7 @@ use Rattle.slots.proofs.mark_ahead.Tie as tie
 
 abbrev Inv-loop : tie.InvT-loop
 Inv-loop out₀ lo end s mark stairs width stop start₀ j₀ out start j =
-    (j ≤ s .blocks) × (start ≡ s .start + j * s .spacing) × (length out ≡ length out₀) × Marked (length out₀) mark (λ i. firstHold s j (lo + i)) out₀ out
+    (j ≤ s .blocks) × (start ≡ s .start + j * s .spacing) × (length out ≡ length out₀) × MarkedWhere (length out₀) mark (λ i. firstHold s j (lo + i)) out₀ out
 
 abbrev μ-loop : tie.MeasureT-loop
 μ-loop out₀ lo end s mark stairs width stop start₀ j₀ out start j = s .blocks - j

@@ -4,7 +4,7 @@ use denote.Ref.{now}
 use lib.ListN.{length}
 use borrow.Author.Needs.{needs}
 use Rattle.series.specs.Series.{inBlock}
-use Rattle.slots.proofs.Tests.{between-block}
+use Rattle.slots.proofs.Tests.{fromUpTo-block}
 use Rattle.slots.proofs.Marks.{marked-agree}
 use Rattle.slots.proofs.mark_block.Statement.{statement}
 use Rattle.slots.proofs.mark_block.Tie as tie
@@ -35,7 +35,7 @@ returns c =
     let less = less2 .before in
     let a = less .before .before .args in
     marked-agree (λ i. inBlock (a .start) (a .length) (a .lo + i)) (x .mark-run .ensures) (λ i l.
-    rw (less .less .ensures, lesser .lesser .ensures, less2 .less2 .ensures) (between-block (a .lo) (a .start) (a .length) (length (now (a .out))) i l))
+    rw (less .less .ensures, lesser .lesser .ensures, less2 .less2 .ensures) (fromUpTo-block (a .lo) (a .start) (a .length) (length (now (a .out))) i l))
 
 pub mark-block-spec : {M : Type 1} → statement M
 mark-block-spec =

@@ -6,7 +6,7 @@ use native.Mathlib.Nat.{mul-le-mul-right}
 use denote.Ref.{now}
 use lib.ListN.{length}
 use borrow.Author.Needs.{needs}
-use Rattle.slots.specs.Steps.{firstHold, Marked}
+use Rattle.slots.specs.Steps.{firstHold, MarkedWhere}
 use Rattle.slots.proofs.Marks.{marked-none, marked-agree, marked-more, marked-within}
 use Rattle.slots.proofs.Blocks.{someBelow-none, first-next}
 use Rattle.slots.proofs.mark_each.Statement.{statement}
@@ -14,7 +14,7 @@ use Rattle.slots.proofs.mark_each.Tie as tie
 
 abbrev Inv-loop : tie.InvT-loop
 Inv-loop out₀ lo s mark start₀ j₀ out start j =
-    (j ≤ s .blocks) × (start ≡ s .start + j * s .spacing) × (length out ≡ length out₀) × Marked (length out₀) mark (λ i. firstHold s j (lo + i)) out₀ out
+    (j ≤ s .blocks) × (start ≡ s .start + j * s .spacing) × (length out ≡ length out₀) × MarkedWhere (length out₀) mark (λ i. firstHold s j (lo + i)) out₀ out
 
 abbrev μ-loop : tie.MeasureT-loop
 μ-loop out₀ lo s mark start₀ j₀ out start j = s .blocks - j

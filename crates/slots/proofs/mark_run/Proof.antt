@@ -5,15 +5,15 @@ use native.Mathlib.Omega.{arith}
 use denote.Ref.{now}
 use lib.ListN.{length, length-set}
 use borrow.Author.Needs.{needs}
-use Rattle.slots.specs.Steps.{Marked, between}
-use Rattle.slots.proofs.Tests.{between-none, between-at, between-in, between-other, between-all}
+use Rattle.slots.specs.Steps.{MarkedWhere, fromUpTo}
+use Rattle.slots.proofs.Tests.{fromUpTo-none, fromUpTo-at, fromUpTo-in, fromUpTo-other, fromUpTo-all}
 use Rattle.slots.proofs.Marks.{marked-none, marked-agree, marked-set}
 use Rattle.slots.proofs.mark_run.Statement.{statement}
 use Rattle.slots.proofs.mark_run.Tie as tie
 
 abbrev Inv-loop : tie.InvT-loop
 Inv-loop out₀ from to mark i₀ out i =
-    (from ≤ i) × (i ≤ max from to) × (length out ≡ length out₀) × Marked (length out₀) mark (between from i) out₀ out
+    (from ≤ i) × (i ≤ max from to) × (length out ≡ length out₀) × MarkedWhere (length out₀) mark (fromUpTo from i) out₀ out
 
 abbrev μ-loop : tie.MeasureT-loop
 μ-loop out₀ from to mark i₀ out i = to - i
@@ -21,7 +21,7 @@ abbrev μ-loop : tie.MeasureT-loop
 loop-holds : tie.Need-loop-holds Inv-loop μ-loop
 loop-holds c =
     let a = c .before .args in
-    (omega arith, omega arith, refl, marked-none (between (a .from) (a .from)) (now (a .out)) (λ k _. between-none (a .from) k))
+    (omega arith, omega arith, refl, marked-none (fromUpTo (a .from) (a .from)) (now (a .out)) (λ k _. fromUpTo-none (a .from) k))
 
 slice-read-greater : tie.Need-slice-read-greater Inv-loop μ-loop
 slice-read-greater c = search needs
@@ -47,8 +47,8 @@ loop-again c =
       omega arith,
       omega arith,
       length-set (h .loop .out) i (c .greater .result) ∙ inv .2,
-      rw (c .greater .ensures) (marked-set (between (a .from) (i + 1)) i (a .mark) (inv .3) (inv .2) (omega arith)
-          (between-at (a .from) i (inv .0)) (between-other (a .from) i (inv .0)) (rw (between-in (a .from) i (inv .0)))),
+      rw (c .greater .ensures) (marked-set (fromUpTo (a .from) (i + 1)) i (a .mark) (inv .3) (inv .2) (omega arith)
+          (fromUpTo-at (a .from) i (inv .0)) (fromUpTo-other (a .from) i (inv .0)) (rw (fromUpTo-in (a .from) i (inv .0)))),
     )
 
 same-length : tie.Need-same-length Inv-loop μ-loop
@@ -59,7 +59,7 @@ returns c =
     let h = c .before in
     let a = h .before .before .args in
     let inv = h .loop .inv in
-    marked-agree (between (a .from) (a .to)) (inv .3) (λ k _. between-all (a .from) (h .loop .i) (inv .0) (a .to) k (omega arith) (inv .1))
+    marked-agree (fromUpTo (a .from) (a .to)) (inv .3) (λ k _. fromUpTo-all (a .from) (h .loop .i) (inv .0) (a .to) k (omega arith) (inv .1))
 
 pub mark-run-spec : {M : Type 1} → statement M
 mark-run-spec =

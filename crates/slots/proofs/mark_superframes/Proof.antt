@@ -10,7 +10,7 @@ use native.Mathlib.Nat.{mul-le-mul, eq-or-lt-of-le}
 use denote.Ref.{now}
 use lib.ListN.{length}
 use borrow.Author.Needs.{needs}
-use Rattle.slots.specs.Steps.{holdsIn, Marked}
+use Rattle.slots.specs.Steps.{holdsIn, MarkedWhere}
 use Rattle.slots.proofs.Marks.{marked-none, marked-agree, marked-more}
 use Rattle.slots.proofs.Blocks.{someBelow-none, holdsIn-next, holdsIn-past}
 use Rattle.slots.proofs.mark_superframes.Statement.{statement}
@@ -18,7 +18,7 @@ use Rattle.slots.proofs.mark_superframes.Tie as tie
 
 abbrev Inv-loop : tie.InvT-loop
 Inv-loop out₀ lo end m1 superframes s mark stairs start₀ k₀ out start k =
-    (k ≤ superframes) × (start ≡ s .start + k * m1) × (length out ≡ length out₀) × Marked (end - lo) mark (λ i. holdsIn m1 k s (lo + i)) out₀ out
+    (k ≤ superframes) × (start ≡ s .start + k * m1) × (length out ≡ length out₀) × MarkedWhere (end - lo) mark (λ i. holdsIn m1 k s (lo + i)) out₀ out
 
 abbrev μ-loop : tie.MeasureT-loop
 μ-loop out₀ lo end m1 superframes s mark stairs start₀ k₀ out start k = superframes - k

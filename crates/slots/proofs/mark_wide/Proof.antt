@@ -6,7 +6,7 @@ use denote.Ref.{now}
 use lib.ListN.{length, length-set}
 use borrow.Author.Needs.{needs}
 use Rattle.series.specs.Series.{inBlock}
-use Rattle.slots.specs.Steps.{Marked}
+use Rattle.slots.specs.Steps.{MarkedWhere}
 use Rattle.slots.proofs.Tests.{firstPlaces, first-none, first-at, first-in, first-other, first-all}
 use Rattle.slots.proofs.Marks.{marked-none, marked-agree, marked-set}
 use Rattle.slots.proofs.Stairs.{stairs-at}
@@ -14,7 +14,7 @@ use Rattle.slots.proofs.mark_wide.Statement.{statement}
 use Rattle.slots.proofs.mark_wide.Tie as tie
 
 abbrev Inv-loop : tie.InvT-loop
-Inv-loop out₀ at length′ mark stairs width step d₀ out d = (d ≤ width) × (length out ≡ length out₀) × Marked (length out₀) mark (firstPlaces at length′ d) out₀ out
+Inv-loop out₀ at length′ mark stairs width step d₀ out d = (d ≤ width) × (length out ≡ length out₀) × MarkedWhere (length out₀) mark (firstPlaces at length′ d) out₀ out
 
 abbrev μ-loop : tie.MeasureT-loop
 μ-loop out₀ at length′ mark stairs width step d₀ out d = width - d
