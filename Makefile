@@ -1,6 +1,6 @@
 # make demo    a C host's day, with its tables and its tally, the listing of the sample bursts, and the sample day replayed
 # make test    everything that must hold, as .ci/run runs it; its last line is 'N passed, M failed'
-# make bench   the calls beside a plain Rust implementation, the listing and the replay beside two programs each
+# make bench   the calls beside a plain Rust implementation, the search beside plain C too, the listing and the replay beside two programs each
 # make second  builds the second program of tests/second, which test and bench use
 # make clean   removes all that was built
 

@@ -1,4 +1,4 @@
-/* A search needs no more stack than the header says. Each runs on a stack of its own that was painted before: what has lost its paint was
+/* A search needs no more stack than the header says, and more than half of it. Each runs on a stack of its own that was painted before: what has lost its paint was
    needed. What a call that does nothing needs is the host's, and is taken off. */
 #include <stdio.h>
 #include <string.h>
@@ -100,5 +100,5 @@ int main(void)
                     }
             }
     printf("a search needs %u octets of stack, and the header says %u\n", (unsigned)most, (unsigned)GEMTHATCH_SEARCH_STACK);
-    return most <= GEMTHATCH_SEARCH_STACK ? 0 : 1;
+    return most <= GEMTHATCH_SEARCH_STACK && most > GEMTHATCH_SEARCH_STACK / 2 ? 0 : 1;
 }

@@ -91,13 +91,14 @@ pub fn slot_state(s: State, memory: &[u8], slot: u32) -> SlotAnswer
 
 // ---- numbers
 
-fn greater(a: u8, b: u8) -> u8
-    ensures { λ r. ⌜ r ≡ max a b ⌝ }
+// The greater of an octet and a mark.
+fn greater(octet: u8, mark: u8) -> u8
+    ensures { λ r. ⌜ r ≡ max octet mark ⌝ }
 {
-    if a < b {
-        return b;
+    if octet < mark {
+        return mark;
     }
-    a
+    octet
 }
 
 fn lesser(a: u64, b: u64) -> u64

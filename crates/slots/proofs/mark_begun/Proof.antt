@@ -44,7 +44,8 @@ mark-short-requires c κs =
     let x = c .before in
     let s = entry x in
     let reached = skips x .skipped .ensures .begun (omega (arith, skips x .before .if1 .left)) in
-    ((omega (arith, small x .early), s .pre .0 .5, rw (x .after .ensures) (omega (arith, reached, s .pre .0 .5)), rw (x .after .ensures) (s .pre .0 .3)), s .pre .1)
+    let short : x .after .result .length ≤ 32 = rw (x .after .ensures) (s .pre .0 .3) in
+    ((omega (arith, small x .early), s .pre .0 .5, rw (x .after .ensures) (omega (arith, reached, s .pre .0 .5)), omega (arith, short)), s .pre .1)
 
 after-requires-2 : tie.Need-after-requires-2
 after-requires-2 c κs =

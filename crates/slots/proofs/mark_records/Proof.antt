@@ -85,7 +85,10 @@ loop-holds c =
     so-far-none (omega (arith, l .lesser .ensures))
 
 first-below-requires : tie.Need-first-below-requires Inv-loop μ-loop
-first-below-requires c κs = search needs
+first-below-requires c κs =
+    let h = c .before .before in
+    let inv = h .loop .inv in
+    (inv .taken-≤, omega (arith, entry h .pre, inv .same), record { at = λ j l. omega (arith, inv .taken-all .at j l) })
 
 same-length : tie.Need-same-length Inv-loop μ-loop
 same-length c = search needs
