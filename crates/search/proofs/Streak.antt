@@ -39,10 +39,11 @@ unfolding streak
 streak-next p lo n = rw add-one
 
 -- by the last number
-pub streak-last : (p : ℕ → Bool) (lo n : ℕ) → 0 < n → streak p lo n ≡ cond (p (lo + (n - 1))) (streak p lo (n - 1) + 1) 0
+pub streak-last : (p : ℕ → Bool) (lo n : ℕ) → 0 < n → streak p lo n ≡ cond (p (lo + n - 1)) (streak p lo (n - 1) + 1) 0
 streak-last p lo n h =
     let e : n ≡ n - 1 + 1 = omega arith in
-    ap (streak p lo) e ∙ streak-next p lo (n - 1)
+    let last : lo + (n - 1) ≡ lo + n - 1 = omega arith in
+    ap (streak p lo) e ∙ streak-next p lo (n - 1) ∙ rw last
 
 -- the number before a streak does not pass
 pub streak-stop : (p : ℕ → Bool) (lo n : ℕ) → streak p lo n < n → p (lo + (n - 1 - streak p lo n)) ≡ false

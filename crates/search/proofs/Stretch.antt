@@ -23,13 +23,15 @@ pub record Stretch (xs : List ℕ) (q : Query) (base start free : ℕ) : Type 0 
 
 module _ (xs : List ℕ) (q : Query) where
   -- where it begins
-  pub stretch-start : {start free : ℕ} → q .lo ≤ start → blockBelow xs q 2 start ≡ true → free ≡ streak (octetBelow xs 1) (start - q .lo) (q .length)
-      → Stretch xs q start start free
-  stretch-start {start} l u e =
+  pub stretch-start : {start n : ℕ} → q .lo ≤ start → blockBelow xs q 2 start ≡ true → n ≡ q .length - streak (octetBelow xs 1) (start - q .lo) (q .length)
+      → Stretch xs q start start (q .length - n)
+  stretch-start {start} {n} l u e =
+      let free : q .length - n ≡ streak (octetBelow xs 1) (start - q .lo) (q .length) =
+      omega (arith, e, streak-≤ (octetBelow xs 1) (start - q .lo) (q .length)) in
       record {
         ahead = omega arith;
         untaken = u;
-        counted = e ∙ streak-slots xs (q .lo) 1 start (q .length) l ∙ ap (streak (slotBelow xs (q .lo) 1) start) (omega arith);
+        counted = free ∙ streak-slots xs (q .lo) 1 start (q .length) l ∙ ap (streak (slotBelow xs (q .lo) 1) start) (omega arith);
       }
 
   module _ {base start free : ℕ} (s : Stretch xs q base start free) where

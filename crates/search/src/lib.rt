@@ -3,14 +3,14 @@ use table::State;
 ghost use mathlib.Core.Path.{_≡_};
 ghost use mathlib.Core.Bool.{true, cond};
 ghost use mathlib.Core.List.{[], _++_};
-ghost use Prim.Native.Nat.{_+_, _≤_, _<_};
+ghost use Prim.Native.Nat.{_+_, _-_, _≤_, _<_};
 ghost use lib.Dec.{eqb};
-ghost use lib.ListN.{length, take};
+ghost use lib.ListN.{length, length as len, take};
 ghost use Rattle.octets.specs.Octets.{holdsOnly};
 ghost use Rattle.octets.specs.Refusals.{firstOf};
 ghost use Rattle.table.specs.Memory.{channel, tableOf};
 ghost use Rattle.search.specs.Search.{statesOf, queryTests, listed, listAfter, searched, picked};
-ghost use Rattle.search.specs.Steps.{WellAsked, statesIn, octetBelow, streak, blockBelow, Skipped, boundBy, pushedNext, pushed, Scanned};
+ghost use Rattle.search.specs.Steps.{WellAsked, lent, query, statesIn, octetBelow, streak, blockBelow, Skipped, boundBy, pushedNext, pushed, Scanned};
 ghost use Rattle.search.specs.Claims.{Claims};
 
 // What a search is given: where a block may start, its length, and how many starts are wanted.
@@ -83,21 +83,20 @@ fn wipe(list: &mut [u32])
 
 // ---- the octets of slot states: 0 free, 1 reusable, else taken
 
-// How many of the n octets from a place on, counted from the last back, are below x, one after the other: 1 tells the free slots, 2 those that
-// are not taken.
-fn streak_below(states: &[u8], at: usize, n: usize, x: u8) -> usize
+// How many of the n octets from a place on there are up to the last that is not below x, 0 where all are: 1 tells the free slots, 2 those
+// that are not taken.
+fn up_to_last(states: &[u8], at: usize, n: usize, x: u8) -> usize
     requires { ⌜ at + n ≤ length (now states) ⌝ }
-    ensures { λ r. ⌜ r ≡ streak (octetBelow (now (states .entry)) x) at n ⌝ }
+    ensures { λ r. ⌜ r ≡ n - streak (octetBelow (now (states .entry)) x) at n ⌝ }
 {
     let mut k = n;
     while 0 < k {
-        let last = k - 1;
-        if x <= states[at + last] {
-            return n - k;
+        if x <= states[at + k - 1] {
+            return k;
         }
-        k = last;
+        k -= 1;
     }
-    n
+    0
 }
 
 // A streak of free slots with one slot more, by its octet.
@@ -120,12 +119,11 @@ fn skip(states: &[u8], q: Query, start: u32, x: u8) -> u32
     let length = q.length as usize;
     let mut s = start;
     while s <= q.hi {
-        let n = streak_below(states, (s - q.lo) as usize, length, x);
-        if n == length {
+        let n = up_to_last(states, (s - q.lo) as usize, length, x);
+        if n == 0 {
             return s;
         }
-        let stop = s + (length - 1 - n) as u32;
-        s = stop + 1;
+        s += n as u32;
     }
     q.hi + 1
 }
@@ -184,7 +182,7 @@ fn along(states: &[u8], q: Query, list: &mut [u32], later: &mut [u32], p: Progre
     let mut start = p.start;
     let mut listed = p.listed;
     let mut kept = p.kept;
-    let mut free = streak_below(states, (start - q.lo) as usize, length, 1);
+    let mut free = length - up_to_last(states, (start - q.lo) as usize, length, 1);
     while start <= q.hi {
         let all = length <= free;
         listed = push(list, listed, most, start, all);
@@ -236,21 +234,38 @@ fn scan(states: &[u8], q: Query, list: &mut [u32], later: &mut [u32]) -> usize
 }
 
 // The same by the records held, in a wiped window that has room for the slots asked about and 32 octets more.
+// State and query come as plain numbers: those travel in registers, a struct through memory.
 fn look(
-    s: State,
+    m1: u32,
+    time: u32,
+    count: u32,
     memory: &[u8],
-    q: Query,
+    lo: u32,
+    hi: u32,
+    length: u32,
+    wanted: u32,
     window: &mut [u8],
     list: &mut [u32],
     later: &mut [u32],
 ) -> usize
-    requires { ⌜ WellAsked q (length (now list)) × (q .wanted ≤ length (now later)) × (q .hi + q .length + 32 ≤ q .lo + length (now window)) ⌝ }
-    requires { ⌜ (now list ≡ holdsOnly (length (now list)) []) × (now later ≡ holdsOnly (length (now later)) []) × (now window ≡ holdsOnly (length (now window)) []) ⌝ }
-    ensures number { λ r. ⌜ r ≡ length (listed (statesOf (tableOf (channel s (now (memory .entry))))) q) ⌝ }
-    ensures list { λ _. ⌜ now (list .exit) ≡ holdsOnly (length (now (list .entry))) (listed (statesOf (tableOf (channel s (now (memory .entry))))) q) ⌝ }
+    requires { ⌜ WellAsked (query lo hi length wanted) (len (now list)) × (wanted ≤ len (now later)) × (hi + length + 32 ≤ lo + len (now window)) ⌝ }
+    requires { ⌜ (now list ≡ holdsOnly (len (now list)) []) × (now later ≡ holdsOnly (len (now later)) []) × (now window ≡ holdsOnly (len (now window)) []) ⌝ }
+    ensures number { λ r. ⌜ r ≡ len (listed (statesOf (tableOf (lent m1 time count (now (memory .entry))))) (query lo hi length wanted)) ⌝ }
+    ensures list { λ _. ⌜ now (list .exit) ≡ holdsOnly (len (now (list .entry))) (listed (statesOf (tableOf (lent m1 time count (now (memory .entry))))) (query lo hi length wanted)) ⌝ }
 {
-    let n = (q.hi - q.lo + q.length) as usize + 32;
-    slots::raise(s, memory, q.lo, &mut window[..n]);
+    let s = State {
+        m1,
+        now: time,
+        count,
+    };
+    let q = Query {
+        lo,
+        hi,
+        length,
+        wanted,
+    };
+    let n = (hi - lo + length) as usize + 32;
+    slots::raise(s, memory, lo, &mut window[..n]);
     scan(window, q, list, later)
 }
 
@@ -262,7 +277,19 @@ fn look_near(s: State, memory: &[u8], q: Query, list: &mut [u32], later: &mut [u
     ensures list { λ _. ⌜ now (list .exit) ≡ holdsOnly (length (now (list .entry))) (listed (statesOf (tableOf (channel s (now (memory .entry))))) q) ⌝ }
 {
     let mut window = [0u8; 192];
-    look(s, memory, q, &mut window, list, later)
+    look(
+        s.m1,
+        s.now,
+        s.count,
+        memory,
+        q.lo,
+        q.hi,
+        q.length,
+        q.wanted,
+        &mut window,
+        list,
+        later,
+    )
 }
 
 // The same for one about a thousand.
@@ -273,7 +300,19 @@ fn look_ahead(s: State, memory: &[u8], q: Query, list: &mut [u32], later: &mut [
     ensures list { λ _. ⌜ now (list .exit) ≡ holdsOnly (length (now (list .entry))) (listed (statesOf (tableOf (channel s (now (memory .entry))))) q) ⌝ }
 {
     let mut window = [0u8; 1152];
-    look(s, memory, q, &mut window, list, later)
+    look(
+        s.m1,
+        s.now,
+        s.count,
+        memory,
+        q.lo,
+        q.hi,
+        q.length,
+        q.wanted,
+        &mut window,
+        list,
+        later,
+    )
 }
 
 // The same for a superframe of the usual 4,500 slots.
@@ -284,7 +323,19 @@ fn look_along(s: State, memory: &[u8], q: Query, list: &mut [u32], later: &mut [
     ensures list { λ _. ⌜ now (list .exit) ≡ holdsOnly (length (now (list .entry))) (listed (statesOf (tableOf (channel s (now (memory .entry))))) q) ⌝ }
 {
     let mut window = [0u8; 4608];
-    look(s, memory, q, &mut window, list, later)
+    look(
+        s.m1,
+        s.now,
+        s.count,
+        memory,
+        q.lo,
+        q.hi,
+        q.length,
+        q.wanted,
+        &mut window,
+        list,
+        later,
+    )
 }
 
 // The same for any query: at most 15,360 starts, 31 slots behind the last, and 32 octets more.
@@ -304,7 +355,19 @@ fn look_far(s: State, memory: &[u8], q: Query, list: &mut [u32], later: &mut [u3
         return look_along(s, memory, q, list, later);
     }
     let mut window = [0u8; 15423];
-    look(s, memory, q, &mut window, list, later)
+    look(
+        s.m1,
+        s.now,
+        s.count,
+        memory,
+        q.lo,
+        q.hi,
+        q.length,
+        q.wanted,
+        &mut window,
+        list,
+        later,
+    )
 }
 
 // Lists the first starts in lo..hi of a block that is free, then of one that has no taken slot, into a list that is wiped at each

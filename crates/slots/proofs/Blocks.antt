@@ -1,20 +1,20 @@
 -- Laws of a series of blocks. Assumes nothing.
-use Prim.Native.Nat.{ℕ, zero, suc, _+_, _-_, _*_, _/_, _%_, _<_, _≤_}
+use Prim.Native.Nat.{ℕ, zero, suc, _+_, _-_, _*_, _/_, _%_, _<_, _≤_, min}
 use native.Mathlib.Nat.{add-mul, mul-le-mul-right, add-suc, add-zero, div-add-mod', mod-lt, zero-div, eq-zero-or-pos, lt-of-mul-lt-mul-right}
 use native.Mathlib.Numerals.{add-one}
 use native.Mathlib.Omega.{arith}
 use mathlib.Core.Logic.{⊎-elim}
 use mathlib.Core.Path.{_≡_, refl, sym, ap, _∙_}
-use mathlib.Core.Bool.{Bool, true, false, _||_, or-assoc, or-false}
+use mathlib.Core.Bool.{Bool, true, false, _&&_, _||_, false≢true, or-assoc, or-false, and-eq-true-iff}
 use lib.Dec.{ltb}
-use borrow.Author.Tests.{ltb-true, ltb-false}
+use borrow.Author.Tests.{ltb-true, ltb-false, lt-ltb, le-ltb}
 use Rattle.octets.proofs.Refusals.{by-test}
 use Rattle.series.specs.Series.{someBelow, inBlock}
 use Rattle.series.proofs.SomeBelow.{someBelow-at, someBelow-elim}
 use Rattle.series.proofs.Blocks.{inBlock-both}
 use Rattle.slots.specs.declared.Series.{Series}
-use Rattle.slots.specs.Steps.{firstHold, holds, holdsIn, after, Small, Skips, Left}
-use Rattle.slots.proofs.Tests.{fails, agree, block-join}
+use Rattle.slots.specs.Steps.{firstHold, holds, firstBefore, holdsBefore, holdsIn, after, Small, Skips, Left}
+use Rattle.slots.proofs.Tests.{fails, agree, and-within, block-join}
 
 -- ---- someBelow
 
@@ -29,10 +29,10 @@ unfolding someBelow
 someBelow-next n p = rw add-one
 
 -- tests that agree
-someBelow-agree : (n : ℕ) (p q : ℕ → Bool) → ((j : ℕ) → p j ≡ q j) → someBelow n p ≡ someBelow n q
+someBelow-agree : (n : ℕ) (p q : ℕ → Bool) → ((j : ℕ) → j < n → p j ≡ q j) → someBelow n p ≡ someBelow n q
 unfolding someBelow
 someBelow-agree zero p q h = refl
-someBelow-agree (suc n) p q h = rw (someBelow-agree n p q h, h n)
+someBelow-agree (suc n) p q h = rw (someBelow-agree n p q (λ j l. h j (omega arith)), h n (omega arith))
 
 -- so many numbers, and so many after them
 someBelow-append : (a b : ℕ) (p : ℕ → Bool) → someBelow (a + b) p ≡ (someBelow a p || someBelow b (λ j. p (a + j)))
@@ -80,6 +80,14 @@ module _ (s : Series) (slot : ℕ) where
       let o = f (omega arith) in
       omega arith)))
 
+  -- no superframe, or no block in one
+  pub holdsIn-none : (m1 n : ℕ) → (ltb (s .blocks) 1 || ltb n 1) ≡ true → holdsIn m1 n s slot ≡ false
+  holdsIn-none m1 n h =
+      fails (holdsIn m1 n s slot)
+      (someBelow-elim n (λ k. someBelow (s .blocks) (λ j. inBlock (s .start + k * m1 + j * s .spacing) (s .length) slot)) (λ k lk.
+      someBelow-elim (s .blocks) (λ j. inBlock (s .start + k * m1 + j * s .spacing) (s .length) slot) (λ j lj e.
+      false≢true (rw (le-ltb (s .blocks) 1 (omega arith), le-ltb n 1 (omega arith)) at h))))
+
 -- ---- a series in parts
 
 -- its first n blocks, and those after them
@@ -89,14 +97,7 @@ holds-after s n slot h =
     ap (λ (m : ℕ). firstHold s m slot) e
     ∙ someBelow-append n (s .blocks - n) (λ j. inBlock (s .start + j * s .spacing) (s .length) slot)
     ∙ ap (λ (b : Bool). firstHold s n slot || b) (someBelow-agree (s .blocks - n) (λ j. inBlock (s .start + (n + j) * s .spacing) (s .length) slot) (λ j. inBlock (s .start + n * s .spacing + j * s .spacing) (s .length) slot)
-    (λ j. let d : s .start + (n + j) * s .spacing ≡ s .start + n * s .spacing + j * s .spacing = omega (arith, add-mul n j (s .spacing)) in ap (λ (x : ℕ). inBlock x (s .length) slot) d))
-
--- those after the first n do not count where they start past the slot
-pub holds-past : (s : Series) (n slot : ℕ) → n ≤ s .blocks → slot < s .start + n * s .spacing → firstHold s n slot ≡ holds s slot
-holds-past s n slot h l =
-    someBelow-past (s .blocks) (λ j. inBlock (s .start + j * s .spacing) (s .length) slot) n h (λ j f e.
-    let d : n * s .spacing ≤ j * s .spacing = mul-le-mul-right (s .spacing) f in
-    omega (arith, inBlock-both (s .start + j * s .spacing) (s .length) slot e .0))
+    (λ j _. let d : s .start + (n + j) * s .spacing ≡ s .start + n * s .spacing + j * s .spacing = omega (arith, add-mul n j (s .spacing)) in ap (λ (x : ℕ). inBlock x (s .length) slot) d))
 
 -- one block
 first-one : (s : Series) (slot : ℕ) → inBlock (s .start) (s .length) slot ≡ firstHold s 1 slot
@@ -115,12 +116,17 @@ holds-parts lo slot s s₁ s₂ n h k e₁ e₂ =
     rw (first-one s₁ slot, e₂, ← holds-after s₁ 1 slot l, e₁)
     (sym (holds-after s n slot (omega (arith, k .some)) ∙ rw (k .none slot h)))
 
--- those after the first n are as small
-pub small-after : (s : Series) (n : ℕ) → Small s → n ≤ s .blocks → Small (after s n)
-small-after s n h l =
+-- those after the first n end where all end
+ends-after : (s : Series) (n : ℕ) → n ≤ s .blocks → s .start + n * s .spacing + (s .blocks - n) * s .spacing ≡ s .start + s .blocks * s .spacing
+ends-after s n l =
     let e : n + (s .blocks - n) ≡ s .blocks = omega arith in
     let d : (n + (s .blocks - n)) * s .spacing ≡ s .blocks * s .spacing = ap (λ (m : ℕ). m * s .spacing) e in
-    record { few = omega (arith, h .few); close = h .close; short = h .short; early = omega (arith, h .early, d, add-mul n (s .blocks - n) (s .spacing)) }
+    omega (arith, d, add-mul n (s .blocks - n) (s .spacing))
+
+-- and are as small
+pub small-after : (s : Series) (n : ℕ) → Small s → n ≤ s .blocks → Small (after s n)
+small-after s n h l =
+    record { few = omega (arith, h .few); close = h .close; short = h .short; early = omega (arith, h .early, ends-after s n l) }
 
 -- as many are left out as whole spacings fit in before lo
 pub skips : (lo : ℕ) (s : Series) → s .length < s .spacing → 0 < s .blocks → lo < s .start + s .blocks * s .spacing → Skips lo s ((lo - s .start) / s .spacing)
@@ -141,10 +147,10 @@ skips lo s h b l =
     (eq-zero-or-pos (lo - s .start))
 
 -- what is left of a series that starts at lo or behind it is all of it
-pub left-all : (lo : ℕ) (s : Series) → Small s → lo ≤ s .start → s .length < s .spacing → s .length ≤ 32 → Left lo s s
-left-all lo s k h g l =
+pub left-all : (lo : ℕ) (s : Series) → Small s → lo ≤ s .start → Left lo s s
+left-all lo s k h =
     let e : s .blocks - s .blocks ≡ 0 = omega arith in
-    record { small = k; ahead = h; gaps = g; short = l; parts = λ slot _. rw (e, someBelow-none) }
+    record { small = k; ahead = h; long = refl; spaced = refl; ends = refl; parts = λ slot _. rw (e, someBelow-none) }
 
 module _ (lo : ℕ) (s s₁ s₂ : Series) (n : ℕ) (k : Skips lo s n) (e₁ : s₁ ≡ after s n) (e₂ : s₂ ≡ after s₁ 1) where
   -- the blocks that are not left of it
@@ -156,24 +162,51 @@ module _ (lo : ℕ) (s s₁ s₂ : Series) (n : ℕ) (k : Skips lo s n) (e₁ : 
   begun-holds slot h = rw (gone, ← first-next s n slot, k .none slot h, e₁)
 
   -- what is left of a series that started before lo are the blocks after the one that reaches it
-  pub left-after : Small s → s .length < s .spacing → s .length ≤ 32 → Left lo s s₂
-  left-after m g l =
+  pub left-after : Small s → Left lo s s₂
+  left-after m =
       let some : 1 ≤ s₁ .blocks = rw e₁ (omega (arith, k .some)) in
       let small : Small s₁ = rw e₁ (small-after s n m (omega (arith, k .some))) in
       record {
         small = rw e₂ (small-after s₁ 1 small some);
         ahead = rw (e₂, e₁) (omega (arith, k .next));
-        gaps = rw (e₂, e₁) g;
-        short = rw (e₂, e₁) l;
+        long = rw (e₂, e₁);
+        spaced = rw (e₂, e₁);
+        ends = rw (e₂, e₁) (ends-after (after s n) 1 (omega (arith, k .some)) ∙ ends-after s n (omega (arith, k .some)));
         parts = λ slot h. rw (← begun-holds slot h) (holds-parts lo slot s s₁ s₂ n h k e₁ e₂);
       }
 
--- blocks apart that are not over before lo: the next would start past it
-pub not-over : (s : Series) (lo : ℕ) → 0 < s .blocks → s .length < s .spacing → lo < s .start + ((s .blocks - 1) * s .spacing + s .length) → lo < s .start + s .blocks * s .spacing
-not-over s lo b h l =
+-- the last block and those before it
+pub blocks-last : (s : Series) → 0 < s .blocks → s .blocks * s .spacing ≡ (s .blocks - 1) * s .spacing + s .spacing
+blocks-last s b =
     let e : s .blocks - 1 + 1 ≡ s .blocks = omega arith in
     let d : s .blocks * s .spacing ≡ (s .blocks - 1) * s .spacing + 1 * s .spacing = rw e at (add-mul (s .blocks - 1) 1 (s .spacing)) in
     omega arith
+
+-- ---- blocks that start before a stop
+
+-- one more that does
+pub before-next : (stop : ℕ) (s : Series) (n slot : ℕ) → s .start + n * s .spacing < stop
+    → (firstBefore stop s n slot || inBlock (s .start + n * s .spacing) (s .length) slot) ≡ firstBefore stop s (n + 1) slot
+before-next stop s n slot h =
+    sym (someBelow-next n (λ j. ltb (s .start + j * s .spacing) stop && inBlock (s .start + j * s .spacing) (s .length) slot) ∙ rw (lt-ltb (s .start + n * s .spacing) stop h))
+
+-- from one on that does not, none does
+pub before-past : (stop : ℕ) (s : Series) (n slot : ℕ) → n ≤ s .blocks → stop ≤ s .start + n * s .spacing → firstBefore stop s n slot ≡ holdsBefore stop s slot
+before-past stop s n slot h l =
+    someBelow-past (s .blocks) (λ j. ltb (s .start + j * s .spacing) stop && inBlock (s .start + j * s .spacing) (s .length) slot) n h (λ j f e.
+    let d : n * s .spacing ≤ j * s .spacing = mul-le-mul-right (s .spacing) f in
+    omega (arith, ltb-true (s .start + j * s .spacing) stop (and-eq-true-iff (ltb (s .start + j * s .spacing) stop) (inBlock (s .start + j * s .spacing) (s .length) slot) .0 e .0)))
+
+-- of a series that is left those that hold a slot before an end start before it, and before the end of the last block
+pub left-before : (lo end stop : ℕ) (s r : Series) (slot : ℕ) → Left lo s r → 0 < s .blocks → stop ≡ min (s .start + ((s .blocks - 1) * s .spacing + s .length)) end → slot < end
+    → holdsBefore stop r slot ≡ holds r slot
+left-before lo end stop s r slot k b h l =
+    someBelow-agree (r .blocks) (λ j. ltb (r .start + j * r .spacing) stop && inBlock (r .start + j * r .spacing) (r .length) slot) (λ j. inBlock (r .start + j * r .spacing) (r .length) slot) (λ j f.
+    and-within (ltb (r .start + j * r .spacing) stop) (inBlock (r .start + j * r .spacing) (r .length) slot) (λ e.
+    let i = inBlock-both (r .start + j * r .spacing) (r .length) slot e in
+    let d : (j + 1) * r .spacing ≤ r .blocks * r .spacing = mul-le-mul-right (r .spacing) (omega arith) in
+    let m : r .blocks * r .spacing ≡ r .blocks * s .spacing = ap (λ (n : ℕ). r .blocks * n) (k .spaced) in
+    lt-ltb (r .start + j * r .spacing) stop (omega (arith, i .0, i .1, d, m, k .spaced, k .long, k .ends, blocks-last s b))))
 
 -- ---- superframes
 

@@ -8,7 +8,6 @@ use borrow.Author.Tests.{ltb-true, ltb-false}
 use Rattle.octets.proofs.Refusals.{by-test}
 use lib.ListN.{length, getD, take, drop, take-append-drop}
 use lib.Seq.{take-take, length-take-le, drop-append-le}
-use Rattle.record.specs.declared.Rec.{Rec}
 use Rattle.record.specs.Record.{capacity, allRecords}
 use Rattle.record.proofs.Images.{length-allRecords}
 use Rattle.record.proofs.ToCome.{toCome-none}
@@ -25,9 +24,9 @@ recordsFrom-parts i k n m h l f =
     let short : length (take k all) ≡ k = length-take-le k all (rw length-allRecords (omega arith)) in
     ap (drop i) e ∙ drop-append-le i (take k all) (drop k (take n all)) (rw short h)
 
--- of octets xs the octets ys are left once the records from one up to i have marked the first n of them: with those to come each is raised
+-- of octets xs the octets ys are left once the first i records have marked the first n of them: with those to come each is raised
 -- to the same. So many of them, from the first on, are taken, and so many are not free
-pub record SoFar (n m1 first one held : ℕ) (memory xs ys : List ℕ) (i taken reserved : ℕ) : Type 0 where
+pub record SoFar (n m1 first held : ℕ) (memory xs ys : List ℕ) (i taken reserved : ℕ) : Type 0 where
   pub within : i ≤ held
   pub same : length ys ≡ length xs
   pub taken-≤ : taken ≤ n
@@ -35,29 +34,18 @@ pub record SoFar (n m1 first one held : ℕ) (memory xs ys : List ℕ) (i taken 
   pub taken-all : AtLeast taken 2 ys
   pub reserved-all : AtLeast reserved 1 ys
   pub to-come : (j : ℕ) → j < n
-      → max (getD xs j 0) (slotStateNumber m1 (recordsFrom one held memory) (first + j)) ≡ max (getD ys j 0) (slotStateNumber m1 (recordsFrom i held memory) (first + j))
+      → max (getD xs j 0) (slotStateNumber m1 (recordsFrom 0 held memory) (first + j)) ≡ max (getD ys j 0) (slotStateNumber m1 (recordsFrom i held memory) (first + j))
 
 -- slots that are taken are not free: so many as the larger of two numbers are not
 pub reserved-too : {taken : ℕ} {xs : List ℕ} (reserved : ℕ) {k : ℕ} → AtLeast taken 2 xs → AtLeast reserved 1 xs → k ≡ max taken reserved → AtLeast k 1 xs
 reserved-too {taken} {xs} reserved {k} t r e = record { at = λ j l. by-test (ltb j taken) (λ b. omega (arith, t .at j (ltb-true j taken b))) (λ b. r .at j (omega (arith, ltb-false j taken b))) }
 
-module _ {n m1 first : ℕ} {xs ys zs : List ℕ} where
-  -- raised by some records and then by those after them
-  pub raised-parts : (i k held : ℕ) (memory : List ℕ) → i ≤ k → k ≤ held → held ≤ capacity memory
-      → Raised n m1 (recordsFrom i k memory) first xs ys → Raised n m1 (recordsFrom k held memory) first ys zs → Raised n m1 (recordsFrom i held memory) first xs zs
-  raised-parts i k held memory h l f a b =
-      record {
-        at = λ j t.
-            b .at j t
-            ∙ rw (a .at j t, recordsFrom-parts i k held memory h l f, number-append m1 (first + j) (recordsFrom i k memory) (recordsFrom k held memory)) (omega arith);
-      }
-
-module _ {n m1 first one held : ℕ} {memory xs : List ℕ} where
+module _ {n m1 first held : ℕ} {memory xs : List ℕ} where
   -- before the first record
-  pub so-far-none : one ≤ held → SoFar n m1 first one held memory xs xs one 0 0
-  so-far-none h =
+  pub so-far-none : SoFar n m1 first held memory xs xs 0 0 0
+  so-far-none =
       record {
-        within = h;
+        within = omega arith;
         same = refl;
         taken-≤ = omega arith;
         reserved-≤ = omega arith;
@@ -66,11 +54,11 @@ module _ {n m1 first one held : ℕ} {memory xs : List ℕ} where
         to-come = λ j l. refl;
       }
 
-  module _ {ys : List ℕ} {i taken reserved : ℕ} (s : SoFar n m1 first one held memory xs ys i taken reserved) where
+  module _ {ys : List ℕ} {i taken reserved : ℕ} (s : SoFar n m1 first held memory xs ys i taken reserved) where
     -- some records more, once the slots seen to be taken and reserved are counted anew
     pub so-far-next : (k : ℕ) {taken′ reserved′ : ℕ} {zs : List ℕ} → held ≤ capacity memory → i ≤ k → k ≤ held → length zs ≡ length ys
         → taken′ ≤ n → AtLeast taken′ 2 ys → reserved′ ≤ n → AtLeast reserved′ 1 ys → Raised n m1 (recordsFrom i k memory) first ys zs
-        → SoFar n m1 first one held memory xs zs k taken′ reserved′
+        → SoFar n m1 first held memory xs zs k taken′ reserved′
     so-far-next k f h l e tn t rn r raised =
         record {
           within = l;
@@ -85,12 +73,12 @@ module _ {n m1 first one held : ℕ} {memory xs : List ℕ} where
         }
 
     -- no record is left
-    pub so-far-all : held ≤ i → Raised n m1 (recordsFrom one held memory) first xs ys
+    pub so-far-all : held ≤ i → Raised n m1 (recordsFrom 0 held memory) first xs ys
     so-far-all h =
         record { at = λ j b. sym (s .to-come j b ∙ rw (toCome-none i held memory h, number-none m1 (first + j)) (omega arith)) }
 
     -- every slot is taken: no record changes one
-    pub so-far-taken : AtLeast n 2 ys → Raised n m1 (recordsFrom one held memory) first xs ys
+    pub so-far-taken : AtLeast n 2 ys → Raised n m1 (recordsFrom 0 held memory) first xs ys
     so-far-taken t =
         record {
           at = λ j b. sym (s .to-come j b ∙ omega (arith, t .at j b, number-≤ (slotState m1 (recordsFrom i held memory) (first + j))));

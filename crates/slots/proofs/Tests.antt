@@ -19,6 +19,11 @@ agree true b f g = sym (f refl)
 agree false true f g = g refl
 agree false false f g = refl
 
+-- a test that passes where another does adds nothing to it
+pub and-within : (a b : Bool) → (b ≡ true → a ≡ true) → (a && b) ≡ b
+and-within a true f = rw (f refl)
+and-within a false f = and-false a
+
 -- two orders that say the same
 leb-same : (a b c d : ℕ) → (a ≤ b → c ≤ d) → (c ≤ d → a ≤ b) → leb a b ≡ leb c d
 leb-same a b c d f g = agree (leb a b) (leb c d) (λ h. le-leb c d (f (leb-true a b h))) (λ h. le-leb a b (g (leb-true c d h)))
@@ -44,13 +49,13 @@ block-shift lo at length i =
       ltb-same i (at + length) (lo + i) (lo + at + length) (λ h. omega arith) (λ h. omega arith),
     )
 
--- the part of a block that lies in a window from lo on, as a block at a place
-pub block-left : (lo start length i : ℕ) → inBlock (start - lo) (start + length - lo - (start - lo)) i ≡ inBlock start length (lo + i)
+-- the part of a block that started by lo that lies in a window from lo on, as a block at its first place
+pub block-left : (lo start length i : ℕ) → start ≤ lo → inBlock 0 (start + length - lo) i ≡ inBlock start length (lo + i)
 unfolding inBlock
-block-left lo start length i =
+block-left lo start length i s =
     rw (
-      leb-same (start - lo) i start (lo + i) (λ h. omega arith) (λ h. omega arith),
-      ltb-same i (start - lo + (start + length - lo - (start - lo))) (lo + i) (start + length) (λ h. omega arith) (λ h. omega arith),
+      leb-same 0 i start (lo + i) (λ h. omega arith) (λ h. omega arith),
+      ltb-same i (0 + (start + length - lo)) (lo + i) (start + length) (λ h. omega arith) (λ h. omega arith),
     )
 
 -- two blocks of which the second starts no later than at the first one's end, and ends no earlier, are one

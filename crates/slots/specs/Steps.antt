@@ -29,6 +29,14 @@ firstHold s n slot = someBelow n (λ j. inBlock (s .start + j * s .spacing) (s .
 abbrev pub holds : Series → ℕ → Bool
 holds s slot = firstHold s (s .blocks) slot
 
+-- one of its first n blocks that start before a stop does
+abbrev pub firstBefore : ℕ → Series → ℕ → ℕ → Bool
+firstBefore stop s n slot = someBelow n (λ j. ltb (s .start + j * s .spacing) stop && inBlock (s .start + j * s .spacing) (s .length) slot)
+
+-- one of its blocks that start before a stop does
+abbrev pub holdsBefore : ℕ → Series → ℕ → Bool
+holdsBefore stop s slot = firstBefore stop s (s .blocks) slot
+
 -- one of its blocks in so many superframes of m1 slots does
 abbrev pub holdsIn : ℕ → ℕ → Series → ℕ → Bool
 holdsIn m1 superframes s slot =
@@ -56,8 +64,9 @@ pub record Skips (lo : ℕ) (s : Series) (n : ℕ) : Type 0 where
 pub record Left (lo : ℕ) (s r : Series) : Type 0 where
   pub small : Small r
   pub ahead : lo ≤ r .start
-  pub gaps : r .length < r .spacing
-  pub short : r .length ≤ 32
+  pub long : r .length ≡ s .length
+  pub spaced : r .spacing ≡ s .spacing
+  pub ends : r .start + r .blocks * s .spacing ≡ s .start + s .blocks * s .spacing
   pub parts : (slot : ℕ) → lo ≤ slot → (firstHold s (s .blocks - r .blocks) slot || holds r slot) ≡ holds s slot
 
 -- ---- marks

@@ -3,7 +3,7 @@ use record::Rec;
 use table::State;
 ghost use mathlib.Core.Path.{_≡_};
 ghost use mathlib.Core.Bool.{true};
-ghost use Prim.Native.Nat.{_+_, _-_, _*_, _/_, _≤_, _<_, min, max};
+ghost use Prim.Native.Nat.{_+_, _-_, _*_, _≤_, _<_, min, max};
 ghost use lib.ListN.{length as len};
 ghost use Rattle.octets.specs.Octets.{zeroFrom, holdsOnly};
 ghost use Rattle.record.specs.Record.{capacity};
@@ -12,7 +12,7 @@ ghost use Rattle.sound.specs.Sound.{records};
 ghost use Rattle.table.specs.Memory.{channel};
 ghost use Rattle.slots.specs.Slots.{slotState, slotAnswer};
 ghost use Rattle.slots.specs.Window.{windowStates, windowSlots, raised};
-ghost use Rattle.slots.specs.Steps.{holdsMore, markOf, firstHold, holds, holdsIn, after, recordsFrom, Small, Skips, Left, MarkedWhere, fromUpTo, WindowFits, Stairs, Raised, AtLeast};
+ghost use Rattle.slots.specs.Steps.{holdsMore, markOf, firstHold, holds, holdsBefore, holdsIn, after, recordsFrom, Small, Skips, Left, MarkedWhere, fromUpTo, WindowFits, Stairs, Raised, AtLeast};
 ghost use Rattle.slots.specs.Claims.{Claims};
 
 // A slot's state.
@@ -137,16 +137,6 @@ fn times(n: u64, m: u64) -> u64
     n * m
 }
 
-// x over d, the remainder dropped; 0 where d is 0, as in the definitions. By 1 nothing is divided.
-fn quotient(x: u64, d: u64) -> u64
-    ensures { λ r. ⌜ (r ≡ x / d) × (r ≤ x) ⌝ }
-{
-    if d < 2 {
-        return x * d;
-    }
-    x / d
-}
-
 // ---- one block
 
 // Marks the octets from a place up to another.
@@ -186,15 +176,28 @@ fn mark_wide(out: &mut [u8], at: usize, length: usize, mark: u8, stairs: &[u8; 1
     }
 }
 
-// Marks a block of at most 32 slots that may have started before lo.
-fn mark_short(out: &mut [u8], lo: u64, start: u64, length: u64, mark: u8, stairs: &[u8; 128])
-    requires { ⌜ (start ≤ 4398046511104) × (32 ≤ len (now out)) × (start + 32 ≤ lo + len (now out)) × (length ≤ 32) ⌝ }
+// Marks what a block that started by lo, of at most so many slots as it is wide, has left in the window.
+fn mark_rest(
+    out: &mut [u8],
+    lo: u64,
+    start: u64,
+    length: u64,
+    mark: u8,
+    stairs: &[u8; 128],
+    width: usize,
+)
+    requires { ⌜ (start ≤ lo) × (lo ≤ 4398046511104) × (32 ≤ len (now out)) × (length ≤ width) × (width ≤ 32) ⌝ }
     requires { ⌜ (1 ≤ mark) × (mark ≤ 2) × Stairs 32 (now stairs) ⌝ }
     ensures { λ _. ⌜ MarkedWhere (len (now (out .entry))) mark (λ i. inBlock start length (lo + i)) (now (out .entry)) (now (out .exit)) ⌝ }
 {
-    let at = less(start, lo);
-    let left = less(start + length, lo) - at;
-    mark_wide(out, at as usize, left as usize, mark, stairs, 32);
+    mark_wide(
+        out,
+        0,
+        less(start + length, lo) as usize,
+        mark,
+        stairs,
+        width,
+    );
 }
 
 // ---- a series of blocks, in a window from lo up to an end behind which there are 32 octets more
@@ -221,21 +224,20 @@ fn skipped(lo: u64, s: Series) -> u64
     less(lo, s.start) / spacing
 }
 
-// Marks the blocks, of at most so many slots as they are wide, of a series that starts in the window or behind it.
+// Marks the blocks of a series that start before a stop, the first of them at lo or behind it, of at most so many slots as they are wide.
 fn mark_ahead(
     out: &mut [u8],
     lo: u64,
-    end: u64,
+    stop: u64,
     s: Series,
     mark: u8,
     stairs: &[u8; 128],
     width: usize,
 )
-    requires { ⌜ Small s × (lo ≤ s .start) × (s .length < s .spacing) × (s .length ≤ width) × (width ≤ 32) × WindowFits lo end (now out) ⌝ }
+    requires { ⌜ Small s × (lo ≤ s .start) × (s .length < s .spacing) × (s .length ≤ width) × (width ≤ 32) × (stop ≤ s .start + s .blocks * s .spacing) × (stop + 32 ≤ lo + len (now out)) ⌝ }
     requires { ⌜ (1 ≤ mark) × (mark ≤ 2) × Stairs 32 (now stairs) ⌝ }
-    ensures { λ _. ⌜ MarkedWhere (end - lo) mark (λ i. holds s (lo + i)) (now (out .entry)) (now (out .exit)) ⌝ }
+    ensures { λ _. ⌜ MarkedWhere (len (now (out .entry))) mark (λ i. holdsBefore stop s (lo + i)) (now (out .entry)) (now (out .exit)) ⌝ }
 {
-    let stop = lesser(s.start + times(s.blocks, s.spacing), end);
     let mut start = s.start;
     let mut j = 0u64;
     while start < stop {
@@ -252,23 +254,17 @@ fn mark_ahead(
     }
 }
 
-// The same by the narrower of two widths that the length allows.
-fn mark_fitting(out: &mut [u8], lo: u64, end: u64, s: Series, mark: u8, stairs: &[u8; 128])
-    requires { ⌜ Small s × (lo ≤ s .start) × (s .length < s .spacing) × (s .length ≤ 32) × WindowFits lo end (now out) ⌝ }
-    requires { ⌜ (1 ≤ mark) × (mark ≤ 2) × Stairs 32 (now stairs) ⌝ }
-    ensures { λ _. ⌜ MarkedWhere (end - lo) mark (λ i. holds s (lo + i)) (now (out .entry)) (now (out .exit)) ⌝ }
-{
-    if s.length <= 16 {
-        mark_ahead(out, lo, end, s, mark, stairs, 16);
-        return;
-    }
-    mark_ahead(out, lo, end, s, mark, stairs, 32);
-}
-
-// Of a series whose blocks lie apart, of at most 32 slots each, marks the block that started before lo and may not be over; the series that is
-// left, from lo on.
-fn mark_begun(out: &mut [u8], lo: u64, s: Series, mark: u8, stairs: &[u8; 128]) -> Series
-    requires { ⌜ Small s × (0 < s .blocks) × (s .length < s .spacing) × (s .length ≤ 32) × (lo < s .start + s .blocks * s .spacing) × (32 ≤ len (now out)) ⌝ }
+// Of a series whose blocks lie apart, of at most so many slots each as they are wide, marks the block that started before lo and may not be
+// over; the series that is left, from lo on.
+fn mark_begun(
+    out: &mut [u8],
+    lo: u64,
+    s: Series,
+    mark: u8,
+    stairs: &[u8; 128],
+    width: usize,
+) -> Series
+    requires { ⌜ Small s × (0 < s .blocks) × (s .length < s .spacing) × (s .length ≤ width) × (width ≤ 32) × (lo < s .start + s .blocks * s .spacing) × (32 ≤ len (now out)) ⌝ }
     requires { ⌜ (1 ≤ mark) × (mark ≤ 2) × Stairs 32 (now stairs) ⌝ }
     ensures left { λ r. ⌜ Left lo s r ⌝ }
     ensures marked { λ r. ⌜ MarkedWhere (len (now (out .entry))) mark (λ i. firstHold s (s .blocks - r .blocks) (lo + i)) (now (out .entry)) (now (out .exit)) ⌝ }
@@ -277,8 +273,84 @@ fn mark_begun(out: &mut [u8], lo: u64, s: Series, mark: u8, stairs: &[u8; 128]) 
         return s;
     }
     let reaching = after(s, skipped(lo, s));
-    mark_short(out, lo, reaching.start, reaching.length, mark, stairs);
+    mark_rest(
+        out,
+        lo,
+        reaching.start,
+        reaching.length,
+        mark,
+        stairs,
+        width,
+    );
     after(reaching, 1)
+}
+
+// Marks the blocks of a series that lie apart, of at most so many slots each as they are wide. Where they end is worked out before how many are
+// left out, which takes a division.
+fn mark_apart(
+    out: &mut [u8],
+    lo: u64,
+    end: u64,
+    s: Series,
+    mark: u8,
+    stairs: &[u8; 128],
+    width: usize,
+)
+    requires { ⌜ Small s × (0 < s .blocks) × (s .length < s .spacing) × (s .length ≤ width) × (width ≤ 32) × (lo < s .start + s .blocks * s .spacing) × WindowFits lo end (now out) ⌝ }
+    requires { ⌜ (1 ≤ mark) × (mark ≤ 2) × Stairs 32 (now stairs) ⌝ }
+    ensures { λ _. ⌜ MarkedWhere (end - lo) mark (λ i. holds s (lo + i)) (now (out .entry)) (now (out .exit)) ⌝ }
+{
+    let run = times(s.blocks - 1, s.spacing) + s.length;
+    let stop = lesser(s.start + run, end);
+    let left = mark_begun(out, lo, s, mark, stairs, width);
+    mark_ahead(out, lo, stop, left, mark, stairs, width);
+}
+
+// The same in one superframe, by the narrower of two widths that the length allows. Where the series is over before lo nothing is divided.
+fn mark_superframe(out: &mut [u8], lo: u64, end: u64, s: Series, mark: u8, stairs: &[u8; 128])
+    requires { ⌜ Small s × (0 < s .blocks) × (s .length < s .spacing) × (s .length ≤ 32) × WindowFits lo end (now out) ⌝ }
+    requires { ⌜ (1 ≤ mark) × (mark ≤ 2) × Stairs 32 (now stairs) ⌝ }
+    ensures { λ _. ⌜ MarkedWhere (end - lo) mark (λ i. holds s (lo + i)) (now (out .entry)) (now (out .exit)) ⌝ }
+{
+    let run = times(s.blocks - 1, s.spacing) + s.length;
+    if s.start + run <= lo {
+        return;
+    }
+    if s.length <= 16 {
+        mark_apart(out, lo, end, s, mark, stairs, 16);
+        return;
+    }
+    mark_apart(out, lo, end, s, mark, stairs, 32);
+}
+
+// Marks a series of such blocks in so many superframes of m1 slots, one after the other, up to the end.
+fn mark_superframes(
+    out: &mut [u8],
+    lo: u64,
+    end: u64,
+    m1: u64,
+    superframes: u64,
+    s: Series,
+    mark: u8,
+    stairs: &[u8; 128],
+)
+    requires { ⌜ WindowFits lo end (now out) × (m1 ≤ 4294967295) × (superframes ≤ 255) × (s .start ≤ 4294967295) × (s .spacing ≤ 4294967295) × (s .blocks ≤ 255) × (0 < s .blocks) × (s .length < s .spacing) × (s .length ≤ 32) ⌝ }
+    requires { ⌜ (1 ≤ mark) × (mark ≤ 2) × Stairs 32 (now stairs) ⌝ }
+    ensures { λ _. ⌜ MarkedWhere (end - lo) mark (λ i. holdsIn m1 superframes s (lo + i)) (now (out .entry)) (now (out .exit)) ⌝ }
+{
+    let mut start = s.start;
+    let mut k = 0;
+    while (k < superframes) & (start < end) {
+        let one = Series {
+            start,
+            spacing: s.spacing,
+            blocks: s.blocks,
+            length: s.length,
+        };
+        mark_superframe(out, lo, end, one, mark, stairs);
+        start += m1;
+        k += 1;
+    }
 }
 
 // Marks block after block.
@@ -295,29 +367,69 @@ fn mark_each(out: &mut [u8], lo: u64, s: Series, mark: u8)
     }
 }
 
-// Marks the blocks of a series. Those that touch or overlap are one run; a series that is over before lo is left before anything is divided.
-fn mark_series(out: &mut [u8], lo: u64, end: u64, s: Series, mark: u8, stairs: &[u8; 128])
-    requires { ⌜ Small s × WindowFits lo end (now out) ⌝ }
-    requires { ⌜ (1 ≤ mark) × (mark ≤ 2) × Stairs 32 (now stairs) ⌝ }
-    ensures { λ _. ⌜ MarkedWhere (end - lo) mark (λ i. holds s (lo + i)) (now (out .entry)) (now (out .exit)) ⌝ }
+// Marks the blocks of a series, whatever they are: those that touch or overlap are one run.
+fn mark_any(out: &mut [u8], lo: u64, s: Series, mark: u8)
+    requires { ⌜ Small s × (0 < s .blocks) ⌝ }
+    ensures { λ _. ⌜ MarkedWhere (len (now (out .entry))) mark (λ i. holds s (lo + i)) (now (out .entry)) (now (out .exit)) ⌝ }
 {
-    if s.blocks == 0 {
-        return;
-    }
-    let run = times(s.blocks - 1, s.spacing) + s.length;
-    if s.start + run <= lo {
-        return;
-    }
     if s.spacing <= s.length {
-        mark_block(out, lo, s.start, run, mark);
+        mark_block(
+            out,
+            lo,
+            s.start,
+            times(s.blocks - 1, s.spacing) + s.length,
+            mark,
+        );
         return;
     }
-    if 32 < s.length {
-        mark_each(out, lo, s, mark);
+    mark_each(out, lo, s, mark);
+}
+
+// Marks such a series in so many superframes of m1 slots.
+fn mark_any_superframes(out: &mut [u8], lo: u64, m1: u64, superframes: u64, s: Series, mark: u8)
+    requires { ⌜ (m1 ≤ 4294967295) × (superframes ≤ 255) × (s .start ≤ 4294967295) × (s .spacing ≤ 4294967295) × (s .blocks ≤ 255) × (0 < s .blocks) × (s .length ≤ 255) ⌝ }
+    ensures { λ _. ⌜ MarkedWhere (len (now (out .entry))) mark (λ i. holdsIn m1 superframes s (lo + i)) (now (out .entry)) (now (out .exit)) ⌝ }
+{
+    let mut start = s.start;
+    let mut k = 0;
+    while k < superframes {
+        let one = Series {
+            start,
+            spacing: s.spacing,
+            blocks: s.blocks,
+            length: s.length,
+        };
+        mark_any(out, lo, one, mark);
+        start += m1;
+        k += 1;
+    }
+}
+
+// Marks a series of blocks in so many superframes of m1 slots. One that starts past the end or is over before lo is left by one test: apart, the
+// first of two would often be guessed wrong. Blocks that touch, or of more than 32 slots, which no sound table has, go a way of their own.
+fn mark_series(
+    out: &mut [u8],
+    lo: u64,
+    end: u64,
+    m1: u64,
+    superframes: u64,
+    s: Series,
+    mark: u8,
+    stairs: &[u8; 128],
+)
+    requires { ⌜ WindowFits lo end (now out) × (m1 ≤ 4294967295) × (0 < superframes) × (superframes ≤ 255) × (s .start ≤ 4294967295) × (s .spacing ≤ 4294967295) × (0 < s .blocks) × (s .blocks ≤ 255) × (s .length ≤ 255) ⌝ }
+    requires { ⌜ (1 ≤ mark) × (mark ≤ 2) × Stairs 32 (now stairs) ⌝ }
+    ensures { λ _. ⌜ MarkedWhere (end - lo) mark (λ i. holdsIn m1 superframes s (lo + i)) (now (out .entry)) (now (out .exit)) ⌝ }
+{
+    let last = s.start + times(superframes - 1, m1) + times(s.blocks - 1, s.spacing);
+    if lesser(last + s.length, end) <= larger(s.start, lo) {
         return;
     }
-    let left = mark_begun(out, lo, s, mark, stairs);
-    mark_fitting(out, lo, end, left, mark, stairs);
+    if (s.spacing <= s.length) | (32 < s.length) {
+        mark_any_superframes(out, lo, m1, superframes, s, mark);
+        return;
+    }
+    mark_superframes(out, lo, end, m1, superframes, s, mark, stairs);
 }
 
 // ---- the records
@@ -332,55 +444,24 @@ fn mark_of(far: u8) -> u8
     2
 }
 
-// Marks a series of blocks in so many superframes of m1 slots, one after the other, up to the end.
-fn mark_superframes(
-    out: &mut [u8],
-    lo: u64,
-    end: u64,
-    m1: u64,
-    superframes: u64,
-    s: Series,
-    mark: u8,
-    stairs: &[u8; 128],
-)
-    requires { ⌜ WindowFits lo end (now out) × (m1 ≤ 4294967295) × (superframes ≤ 255) × (s .start ≤ 4294967295) × (s .spacing ≤ 4294967295) × (s .blocks ≤ 255) × (s .length ≤ 255) ⌝ }
-    requires { ⌜ (1 ≤ mark) × (mark ≤ 2) × Stairs 32 (now stairs) ⌝ }
-    ensures { λ _. ⌜ MarkedWhere (end - lo) mark (λ i. holdsIn m1 superframes s (lo + i)) (now (out .entry)) (now (out .exit)) ⌝ }
-{
-    let mut start = s.start;
-    let mut k = 0;
-    while (k < superframes) & (start < end) {
-        let one = Series {
-            start,
-            spacing: s.spacing,
-            blocks: s.blocks,
-            length: s.length,
-        };
-        mark_series(out, lo, end, one, mark, stairs);
-        start += m1;
-        k += 1;
-    }
-}
-
-// Marks the slots that a record reserves. One that starts past the end or is over before lo is left by one test: apart, the first of two
-// would often be guessed wrong.
+// Marks the slots that a record reserves: none where it has no block.
 fn mark_record(out: &mut [u8], lo: u64, end: u64, m1: u32, r: Rec, stairs: &[u8; 128])
     requires { ⌜ WindowFits lo end (now out) × Stairs 32 (now stairs) ⌝ }
     ensures { λ _. ⌜ MarkedWhere (end - lo) (markOf (r .far)) (λ i. reserves m1 r (lo + i)) (now (out .entry)) (now (out .exit)) ⌝ }
 {
-    let m = m1 as u64;
+    let rate = r.rate as u64;
     let superframes = r.superframes as u64;
-    let s = Series {
-        start: r.first as u64,
-        spacing: quotient(m, r.rate as u64),
-        blocks: r.rate as u64,
-        length: r.length as u64,
-    };
-    let last = s.start + times(less(superframes, 1), m) + times(less(s.blocks, 1), s.spacing);
-    if lesser(last + s.length, end) <= larger(s.start, lo) {
+    if (rate < 1) | (superframes < 1) {
         return;
     }
-    mark_superframes(out, lo, end, m, superframes, s, mark_of(r.far), stairs);
+    let m = m1 as u64;
+    let s = Series {
+        start: r.first as u64,
+        spacing: m / rate,
+        blocks: rate,
+        length: r.length as u64,
+    };
+    mark_series(out, lo, end, m, superframes, s, mark_of(r.far), stairs);
 }
 
 // For each mark 32 of it and 32 zeros: from the place 32 - n on stand n marks and then zeros.
@@ -421,14 +502,14 @@ fn mark_some(
     i: usize,
     n: usize,
     full: bool,
+    stairs: &[u8; 128],
 )
-    requires { ⌜ WindowFits lo end (now out) × (n ≤ capacity (now memory)) × (full ≡ true → AtLeast (end - lo) 1 (now out)) ⌝ }
+    requires { ⌜ WindowFits lo end (now out) × Stairs 32 (now stairs) × (n ≤ capacity (now memory)) × (full ≡ true → AtLeast (end - lo) 1 (now out)) ⌝ }
     ensures { λ _. ⌜ Raised (end - lo) m1 (recordsFrom i n (now (memory .entry))) lo (now (out .entry)) (now (out .exit)) ⌝ }
 {
-    let stairs = make_stairs();
     let mut k = i;
     while k < n {
-        mark_needed(out, lo, end, m1, record::load(memory, k), full, &stairs);
+        mark_needed(out, lo, end, m1, record::load(memory, k), full, stairs);
         k += 1;
     }
 }
@@ -453,13 +534,13 @@ fn mark_records(out: &mut [u8], n: usize, s: State, memory: &[u8], first: u32)
     requires { ⌜ n + 32 ≤ len (now out) ⌝ }
     ensures { λ _. ⌜ Raised n (s .m1) (records (channel s (now (memory .entry)))) first (now (out .entry)) (now (out .exit)) ⌝ }
 {
+    let stairs = make_stairs();
     let lo = first as u64;
     let end = lo + n as u64;
     let held = record::held_count(memory, s.count as usize);
-    let mut i = lesser(16, held as u64) as usize;
-    mark_some(out, lo, end, s.m1, memory, 0, i, false);
     let mut taken = 0;
     let mut reserved = 0;
+    let mut i = 0;
     while i < held {
         taken = first_below(out, taken, n, 2);
         if taken == n {
@@ -467,7 +548,7 @@ fn mark_records(out: &mut [u8], n: usize, s: State, memory: &[u8], first: u32)
         }
         reserved = first_below(out, larger(taken as u64, reserved as u64) as usize, n, 1);
         let next = lesser(i as u64 + 16, held as u64) as usize;
-        mark_some(out, lo, end, s.m1, memory, i, next, reserved == n);
+        mark_some(out, lo, end, s.m1, memory, i, next, reserved == n, &stairs);
         i = next;
     }
 }

@@ -61,20 +61,23 @@ cast-length c = search needs
 cast-most : tie.Need-cast-most Inv-loop μ-loop
 cast-most c = search needs
 
-sub-streak-below : tie.Need-sub-streak-below Inv-loop μ-loop
-sub-streak-below c = search needs
+sub-up-to-last : tie.Need-sub-up-to-last Inv-loop μ-loop
+sub-up-to-last c = search needs
 
-cast-streak-below : tie.Need-cast-streak-below Inv-loop μ-loop
-cast-streak-below c = search needs
+cast-up-to-last : tie.Need-cast-up-to-last Inv-loop μ-loop
+cast-up-to-last c = search needs
 
-streak-below-requires : tie.Need-streak-below-requires Inv-loop μ-loop
-streak-below-requires c κs = search needs
+up-to-last-requires : tie.Need-up-to-last-requires Inv-loop μ-loop
+up-to-last-requires c κs = search needs
+
+sub-free : tie.Need-sub-free Inv-loop μ-loop
+sub-free c = search needs
 
 loop-holds : tie.Need-loop-holds Inv-loop μ-loop
 loop-holds c =
     let s = c .before .before .before .before .before .before .before in
     let a = s .args in
-    (refl, refl, s .pre .1 .1, stretch-start (now (a .states)) (a .q) (s .pre .1 .1 .from-lo) (s .pre .1 .0 .1) (c .streak-below .ensures))
+    (refl, refl, s .pre .1 .1, stretch-start (now (a .states)) (a .q) (s .pre .1 .1 .from-lo) (s .pre .1 .0 .1) (c .up-to-last .ensures))
 
 push-requires : tie.Need-push-requires Inv-loop μ-loop
 push-requires c κs = search needs
@@ -163,9 +166,10 @@ along-spec =
     μ-loop
     cast-length
     cast-most
-    sub-streak-below
-    cast-streak-below
-    streak-below-requires
+    sub-up-to-last
+    cast-up-to-last
+    up-to-last-requires
+    sub-free
     loop-holds
     push-requires
     push-requires-2

@@ -9,30 +9,30 @@ use lib.Seq.{length-take-le}
 use borrow.Author.Needs.{needs}
 use Rattle.octets.specs.Octets.{zeroFrom, holdsOnly}
 use Rattle.sound.specs.Sound.{records}
-use Rattle.table.specs.Memory.{channel, tableOf}
+use Rattle.table.specs.Memory.{tableOf}
 use Rattle.slots.specs.Slots.{slotState}
 use Rattle.slots.specs.Window.{windowStates, raised}
 use Rattle.slots.proofs.Window.{window-room}
 use Rattle.search.specs.Search.{listed}
-use Rattle.search.specs.Steps.{statesIn}
+use Rattle.search.specs.Steps.{lent, query, statesIn}
 use Rattle.search.proofs.ByOctets.{take-replicate, listed-window}
 use Rattle.search.proofs.look.Statement.{statement}
 use Rattle.search.proofs.look.Tie as tie
 
 -- how many octets of the window are lent
-abbrev lent : tie.Start → ℕ
-lent s = let q = s .args .q in q .hi - q .lo + q .length + 32
+abbrev room : tie.Start → ℕ
+room s = let a = s .args in a .hi - a .lo + a .length + 32
 
 -- so many it has
-lent-≤ : (s : tie.Start) → lent s ≤ length (now (s .args .window))
-lent-≤ s = omega (arith, s .pre .0 .0 .in-order, s .pre .0 .2)
+room-≤ : (s : tie.Start) → room s ≤ length (now (s .args .window))
+room-≤ s = omega (arith, s .pre .0 .0 .in-order, s .pre .0 .2)
 
 -- those are as many
-part : (s : tie.Start) → length (take (lent s) (now (s .args .window))) ≡ lent s
-part s = length-take-le (lent s) (now (s .args .window)) (lent-≤ s)
+part : (s : tie.Start) → length (take (room s) (now (s .args .window))) ≡ room s
+part s = length-take-le (room s) (now (s .args .window)) (room-≤ s)
 
 abbrev entry : tie.After-raise → tie.Start
-entry c = c .before .before .before .before .before .before .before .before
+entry c = c .before .before .before .before .before .before
 
 -- ---- the needs
 
@@ -52,7 +52,7 @@ slice-relend-prefix-raise : tie.Need-slice-relend-prefix-raise
 slice-relend-prefix-raise c = search needs
 
 slice-aggregate-raise : tie.Need-slice-aggregate-raise
-slice-aggregate-raise c = sym (part (c .before .before .before .before .before .before .before))
+slice-aggregate-raise c = sym (part (c .before .before .before .before .before))
 
 raise-requires : tie.Need-raise-requires
 raise-requires c κs = search needs
@@ -62,8 +62,8 @@ scan-requires c κs =
     let x = c .before .before .before .before .before in
     let s = entry x in
     let w = now (s .args .window) in
-    let long : length (x .raise .last .1 .1 .1 .0 ++ drop (lent s) w) ≡ length w =
-    rw (length-append, length-drop) (omega (arith, x .raise .kept .1 .1 .1 .0, part s, lent-≤ s)) in
+    let long : length (x .raise .last .1 .1 .1 .0 ++ drop (room s) w) ≡ length w =
+    rw (length-append, length-drop) (omega (arith, x .raise .kept .1 .1 .1 .0, part s, room-≤ s)) in
     ((s .pre .0 .0, s .pre .0 .1, omega (arith, long, s .pre .0 .2)), (s .pre .1 .0, s .pre .1 .1))
 
 same-length : tie.Need-same-length
@@ -82,13 +82,14 @@ returns c =
     let x = y .before .before .before .before .before .before in
     let s = entry x in
     let a = s .args in
-    let n = lent s in
-    let rs = records (channel (a .s) (now (a .memory))) in
+    let n = room s in
+    let asked = query (a .lo) (a .hi) (a .length) (a .wanted) in
+    let rs = records (lent (a .m1) (a .time) (a .count) (now (a .memory))) in
     let rest = drop n (now (a .window)) in
-    let wiped : take n (now (a .window)) ≡ replicate n 0 = ap (take n) (s .pre .1 .2) ∙ take-replicate n (length (now (a .window)) - 0) (omega (arith, lent-≤ s)) in
-    let e : x .raise .last .1 .1 .1 .0 ≡ holdsOnly n (windowStates (a .s .m1) rs (a .q .lo) (n - 32)) =
-    x .raise .ensures ∙ rw (part s) (ap (λ (ys : List ℕ). zeroFrom (n - 32) (raised (a .s .m1) rs (a .q .lo) ys)) wiped) ∙ window-room (a .s .m1) rs (a .q .lo) n in
-    let l = ap (λ (xs : List ℕ). listed (statesIn (xs ++ rest) (a .q .lo)) (a .q)) e ∙ listed-window (slotState (a .s .m1) rs) (a .q) (n - 32) n rest (omega arith) in
+    let wiped : take n (now (a .window)) ≡ replicate n 0 = ap (take n) (s .pre .1 .2) ∙ take-replicate n (length (now (a .window)) - 0) (omega (arith, room-≤ s)) in
+    let e : x .raise .last .1 .1 .1 .0 ≡ holdsOnly n (windowStates (a .m1) rs (a .lo) (n - 32)) =
+    x .raise .ensures ∙ rw (part s) (ap (λ (ys : List ℕ). zeroFrom (n - 32) (raised (a .m1) rs (a .lo) ys)) wiped) ∙ window-room (a .m1) rs (a .lo) n in
+    let l = ap (λ (xs : List ℕ). listed (statesIn (xs ++ rest) (a .lo)) asked) e ∙ listed-window (slotState (a .m1) rs) asked (n - 32) n rest (omega arith) in
     (y .scan .ensures .0 ∙ ap length l, y .scan .ensures .1 ∙ ap (holdsOnly (length (now (a .list)))) l)
 
 pub look-spec : {M : Type 1} → statement M

@@ -5,7 +5,7 @@ use mathlib.Core.Path.{_≡_}
 use denote.Ref.{now}
 use borrow.Author.Needs.{needs}
 use Rattle.search.specs.Steps.{Passed}
-use Rattle.search.proofs.Skipped.{skipped-reached, skipped-fewer, skipped-next}
+use Rattle.search.proofs.Skipped.{skipped-reached, skipped-next}
 use Rattle.search.proofs.skip.Statement.{statement}
 use Rattle.search.proofs.skip.Tie as tie
 
@@ -17,15 +17,8 @@ abbrev μ-loop : tie.MeasureT-loop
 
 -- ---- the places of what one turn knows
 
-abbrev at-loop : tie.After-streak-below Inv-loop μ-loop → tie.At-loop Inv-loop μ-loop
+abbrev at-loop : tie.After-up-to-last Inv-loop μ-loop → tie.At-loop Inv-loop μ-loop
 at-loop c = c .before .before .before .before
-
--- where not all slots of the block pass
-fewer : (c : tie.After-streak-below Inv-loop μ-loop) → (c .streak-below .result ≡ at-loop c .before .before .before .args .q .length → ⊥)
-    → c .streak-below .result < at-loop c .before .before .before .args .q .length
-fewer c h =
-    let a = at-loop c .before .before .before .args in
-    skipped-fewer (now (a .states)) (a .q) (a .x) (at-loop c .loop .s) (c .streak-below .result) (omega arith) (c .streak-below .ensures) h
 
 -- ---- the needs
 
@@ -35,14 +28,14 @@ cast-length c = search needs
 loop-holds : tie.Need-loop-holds Inv-loop μ-loop
 loop-holds c = (search needs, λ t a b. absurd (omega arith))
 
-sub-streak-below : tie.Need-sub-streak-below Inv-loop μ-loop
-sub-streak-below c = search needs
+sub-up-to-last : tie.Need-sub-up-to-last Inv-loop μ-loop
+sub-up-to-last c = search needs
 
-cast-streak-below : tie.Need-cast-streak-below Inv-loop μ-loop
-cast-streak-below c = search needs
+cast-up-to-last : tie.Need-cast-up-to-last Inv-loop μ-loop
+cast-up-to-last c = search needs
 
-streak-below-requires : tie.Need-streak-below-requires Inv-loop μ-loop
-streak-below-requires c κs = search needs
+up-to-last-requires : tie.Need-up-to-last-requires Inv-loop μ-loop
+up-to-last-requires c κs = search needs
 
 returns : tie.Need-returns Inv-loop μ-loop
 returns c =
@@ -53,20 +46,11 @@ returns c =
       ahead = h .loop .inv .0;
       to-hi = omega arith;
       passed = h .loop .inv .1;
-      reached = λ _. skipped-reached (now (a .states)) (a .q) (a .x) (h .loop .s) (x .streak-below .result) (omega arith) (x .streak-below .ensures) (c .if2 .taken);
+      reached = λ _. skipped-reached (now (a .states)) (a .q) (a .x) (h .loop .s) (x .up-to-last .result) (omega arith) (x .up-to-last .ensures) (c .if2 .taken);
     }
 
-sub-stop : tie.Need-sub-stop Inv-loop μ-loop
-sub-stop c = let f = fewer (c .before) (c .if2 .left) in omega arith
-
-sub-stop-2 : tie.Need-sub-stop-2 Inv-loop μ-loop
-sub-stop-2 c = let f = fewer (c .before) (c .if2 .left) in omega arith
-
-cast-stop : tie.Need-cast-stop Inv-loop μ-loop
-cast-stop c = search needs
-
-add-stop : tie.Need-add-stop Inv-loop μ-loop
-add-stop c = search needs
+cast-s : tie.Need-cast-s Inv-loop μ-loop
+cast-s c = search needs
 
 add-s : tie.Need-add-s Inv-loop μ-loop
 add-s c = search needs
@@ -79,8 +63,7 @@ loop-again c =
     let x = c .before in
     let h = at-loop x in
     let a = h .before .before .before .args in
-    let f = fewer x (c .if2 .left) in
-    (omega arith, skipped-next (now (a .states)) (a .q) (a .x) (h .loop .s) (x .streak-below .result) (omega arith) (x .streak-below .ensures) (c .if2 .left) (h .loop .inv .1))
+    (omega arith, skipped-next (now (a .states)) (a .q) (a .x) (h .loop .s) (x .up-to-last .result) (omega arith) (x .up-to-last .ensures) (c .if2 .left) (h .loop .inv .1))
 
 add-result : tie.Need-add-result Inv-loop μ-loop
 add-result c = search needs
@@ -103,14 +86,11 @@ skip-spec =
     μ-loop
     cast-length
     loop-holds
-    sub-streak-below
-    cast-streak-below
-    streak-below-requires
+    sub-up-to-last
+    cast-up-to-last
+    up-to-last-requires
     returns
-    sub-stop
-    sub-stop-2
-    cast-stop
-    add-stop
+    cast-s
     add-s
     loop-less
     loop-again

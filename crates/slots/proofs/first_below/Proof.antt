@@ -1,11 +1,10 @@
 -- `slots::first_below` meets its contract: every octet passed is at the mark. Assumes nothing.
-use Prim.Native.Nat.{ℕ, _-_, _≤_, _<_}
+use Prim.Native.Nat.{_-_, _≤_, _<_}
 use native.Mathlib.Nat.{eq-or-lt-of-le}
 use native.Mathlib.Omega.{arith}
 use mathlib.Core.Path.{_≡_}
 use mathlib.Core.Logic.{⊎-elim}
 use denote.Ref.{now}
-use lib.ListN.{getD}
 use borrow.Author.Needs.{needs}
 use Rattle.slots.specs.Steps.{AtLeast}
 use Rattle.slots.proofs.first_below.Statement.{statement}

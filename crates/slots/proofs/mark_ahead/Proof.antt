@@ -1,28 +1,27 @@
 -- `slots::mark_ahead` meets its contract: the blocks before the one that the loop has come to are marked. Assumes nothing.
-use Prim.Native.Nat.{ℕ, _+_, _-_, _*_, _≤_, _<_}
-use mathlib.Core.Path.{_≡_, refl, _∙_, ap}
-use mathlib.Core.Logic.{⊎-elim}
+use Prim.Native.Nat.{_+_, _-_, _*_, _≤_, _<_}
+use mathlib.Core.Path.{_≡_, refl, _∙_}
 use native.Mathlib.Omega.{arith}
-use native.Mathlib.Nat.{lt-of-mul-lt-mul-right, mul-lt-mul-of-pos-right, eq-or-lt-of-le}
+use native.Mathlib.Nat.{lt-of-mul-lt-mul-right}
 use denote.Ref.{now}
 use lib.ListN.{length}
 use borrow.Author.Needs.{needs}
-use Rattle.slots.specs.Steps.{firstHold, holds, MarkedWhere}
+use Rattle.slots.specs.Steps.{firstBefore, holdsBefore, MarkedWhere}
 use Rattle.slots.proofs.Tests.{block-shift}
 use Rattle.slots.proofs.Marks.{marked-none, marked-agree, marked-more, marked-within}
-use Rattle.slots.proofs.Blocks.{someBelow-none, first-next, holds-past}
+use Rattle.slots.proofs.Blocks.{someBelow-none, before-next, before-past}
 use Rattle.slots.proofs.mark_ahead.Statement.{statement}
 use Rattle.slots.proofs.mark_ahead.Tie as tie
 
 abbrev Inv-loop : tie.InvT-loop
-Inv-loop out₀ lo end s mark stairs width stop start₀ j₀ out start j =
-    (j ≤ s .blocks) × (start ≡ s .start + j * s .spacing) × (length out ≡ length out₀) × MarkedWhere (length out₀) mark (λ i. firstHold s j (lo + i)) out₀ out
+Inv-loop out₀ lo stop s mark stairs width start₀ j₀ out start j =
+    (j ≤ s .blocks) × (start ≡ s .start + j * s .spacing) × (length out ≡ length out₀) × MarkedWhere (length out₀) mark (λ i. firstBefore stop s j (lo + i)) out₀ out
 
 abbrev μ-loop : tie.MeasureT-loop
-μ-loop out₀ lo end s mark stairs width stop start₀ j₀ out start j = s .blocks - j
+μ-loop out₀ lo stop s mark stairs width start₀ j₀ out start j = s .blocks - j
 
 abbrev entry : tie.At-loop Inv-loop μ-loop → tie.Start Inv-loop μ-loop
-entry h = h .before .before .before .before .before
+entry h = h .before .before
 
 -- in a turn there is a block left, and 32 octets for it
 turn : (c : tie.In-loop Inv-loop μ-loop)
@@ -32,28 +31,17 @@ turn : (c : tie.In-loop Inv-loop μ-loop)
 turn c =
     let h = c .before in
     let s = entry h in
-    let stop = h .before .lesser .ensures in
-    let times = h .before .before .before .times .ensures .0 in
-    let m : h .loop .j * s .args .s .spacing < s .args .s .blocks * s .args .s .spacing = omega (arith, h .loop .inv .1, stop, times, c .loop-test .taken) in (
+    let m : h .loop .j * s .args .s .spacing < s .args .s .blocks * s .args .s .spacing = omega (arith, h .loop .inv .1, s .pre .0 .5, c .loop-test .taken) in (
       lt-of-mul-lt-mul-right (s .args .s .spacing) m,
-      omega (arith, stop, h .loop .inv .1, s .pre .0 .1, s .pre .0 .5 .behind, c .loop-test .taken),
-      omega (arith, stop, times, c .loop-test .taken, s .pre .0 .0 .early),
+      omega (arith, h .loop .inv .1, s .pre .0 .1, s .pre .0 .6, c .loop-test .taken),
+      omega (arith, s .pre .0 .5, c .loop-test .taken, s .pre .0 .0 .early),
       omega (arith, h .loop .inv .1, s .pre .0 .1),
     )
 
-times-requires : tie.Need-times-requires Inv-loop μ-loop
-times-requires c κs = search needs
-
-add-lesser : tie.Need-add-lesser Inv-loop μ-loop
-add-lesser c = search needs
-
-lesser-requires : tie.Need-lesser-requires Inv-loop μ-loop
-lesser-requires c κs = search needs
-
 loop-holds : tie.Need-loop-holds Inv-loop μ-loop
 loop-holds c =
-    let a = c .before .before .before .before .args in
-    (omega arith, omega arith, refl, marked-none (λ i. firstHold (a .s) 0 (a .lo + i)) (now (a .out)) (λ i _. someBelow-none _))
+    let a = c .before .args in
+    (omega arith, omega arith, refl, marked-none (λ i. firstBefore (a .stop) (a .s) 0 (a .lo + i)) (now (a .out)) (λ i _. someBelow-none _))
 
 sub-mark-wide : tie.Need-sub-mark-wide Inv-loop μ-loop
 sub-mark-wide c = omega (arith, turn (c .before) .3)
@@ -89,8 +77,8 @@ loop-again c =
       omega (arith, turn t .0),
       omega (arith, inv .1),
       x .kept .0 ∙ inv .2,
-      marked-agree (λ i. firstHold (a .s) (j + 1) (a .lo + i)) (marked-more (inv .3) (marked-within (length (now (a .out))) (x .ensures) (omega (arith, inv .2)))) (λ i _.
-          rw (block-shift (a .lo) (h .loop .start - a .lo) (a .s .length) i, e) (first-next (a .s) j (a .lo + i))),
+      marked-agree (λ i. firstBefore (a .stop) (a .s) (j + 1) (a .lo + i)) (marked-more (inv .3) (marked-within (length (now (a .out))) (x .ensures) (omega (arith, inv .2)))) (λ i _.
+          rw (block-shift (a .lo) (h .loop .start - a .lo) (a .s .length) i, e) (before-next (a .stop) (a .s) j (a .lo + i) (omega (arith, inv .1, t .loop-test .taken)))),
     )
 
 same-length : tie.Need-same-length Inv-loop μ-loop
@@ -99,18 +87,9 @@ same-length c = search needs
 returns : tie.Need-returns Inv-loop μ-loop
 returns c =
     let h = c .before in
-    let s = entry h in
-    let a = s .args in
-    let j = h .loop .j in
+    let a = entry h .args in
     let inv = h .loop .inv in
-    let stop = h .before .lesser .ensures in
-    let times = h .before .before .before .times .ensures .0 in
-    marked-agree (λ i. holds (a .s) (a .lo + i)) (marked-within (a .end - a .lo) (inv .3) (omega (arith, s .pre .0 .5 .behind))) (λ i l.
-    ⊎-elim (λ (e : j ≡ a .s .blocks). ap (λ (m : ℕ). firstHold (a .s) m (a .lo + i)) e)
-    (λ (e : j < a .s .blocks).
-    let m : j * a .s .spacing < a .s .blocks * a .s .spacing = mul-lt-mul-of-pos-right e (omega (arith, s .pre .0 .2)) in
-    holds-past (a .s) j (a .lo + i) (inv .0) (omega (arith, inv .1, stop, times, c .loop-test .left)))
-    (eq-or-lt-of-le (inv .0)))
+    marked-agree (λ i. holdsBefore (a .stop) (a .s) (a .lo + i)) (inv .3) (λ i _. before-past (a .stop) (a .s) (h .loop .j) (a .lo + i) (inv .0) (omega (arith, inv .1, c .loop-test .left)))
 
 pub mark-ahead-spec : {M : Type 1} → statement M
 mark-ahead-spec =
@@ -118,9 +97,6 @@ mark-ahead-spec =
     (tie.spec
     Inv-loop
     μ-loop
-    times-requires
-    add-lesser
-    lesser-requires
     loop-holds
     sub-mark-wide
     mark-wide-requires

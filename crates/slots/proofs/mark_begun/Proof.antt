@@ -1,9 +1,10 @@
 -- `slots::mark_begun` meets its contract: of the blocks that are gone from lo on only the last holds a slot. Assumes nothing.
-use Prim.Native.Nat.{ℕ, _+_, _-_, _≤_}
+use Prim.Native.Nat.{_+_, _-_, _≤_}
 use native.Mathlib.Omega.{arith}
-use mathlib.Core.Path.{_≡_}
+use mathlib.Core.Path.{_≡_, ap}
 use denote.Ref.{now}
 use borrow.Author.Needs.{needs}
+use Rattle.slots.specs.declared.Series.{Series}
 use Rattle.slots.specs.Steps.{firstHold, Small}
 use Rattle.slots.proofs.Marks.{marked-none, marked-agree}
 use Rattle.slots.proofs.Blocks.{someBelow-none, small-after, left-all, left-after, begun-holds}
@@ -29,7 +30,7 @@ returns c =
     let s = c .before .before .before in
     let a = s .args in
     let none : a .s .blocks - a .s .blocks ≡ 0 = omega arith in (
-      left-all (a .lo) (a .s) (s .pre .0 .0) (c .if1 .taken) (s .pre .0 .2) (s .pre .0 .3),
+      left-all (a .lo) (a .s) (s .pre .0 .0) (c .if1 .taken),
       marked-none (λ i. firstHold (a .s) (a .s .blocks - a .s .blocks) (a .lo + i)) (now (a .out)) (λ i _. rw (none, someBelow-none)),
     )
 
@@ -39,13 +40,14 @@ skipped-requires c κs = search needs
 after-requires : tie.Need-after-requires
 after-requires c κs = search needs
 
-mark-short-requires : tie.Need-mark-short-requires
-mark-short-requires c κs =
+mark-rest-requires : tie.Need-mark-rest-requires
+mark-rest-requires c κs =
     let x = c .before in
     let s = entry x in
     let reached = skips x .skipped .ensures .begun (omega (arith, skips x .before .if1 .left)) in
-    let short : x .after .result .length ≤ 32 = rw (x .after .ensures) (s .pre .0 .3) in
-    ((omega (arith, small x .early), s .pre .0 .5, rw (x .after .ensures) (omega (arith, reached, s .pre .0 .5)), omega (arith, short)), s .pre .1)
+    let start = ap (λ (r : Series). r .start) (x .after .ensures) in
+    let length = ap (λ (r : Series). r .length) (x .after .ensures) in
+    ((omega (arith, start, reached), omega (arith, s .pre .0 .0 .early, s .pre .0 .5), s .pre .0 .6, omega (arith, length, s .pre .0 .3), s .pre .0 .4), s .pre .1)
 
 after-requires-2 : tie.Need-after-requires-2
 after-requires-2 c κs =
@@ -62,11 +64,19 @@ returns-2 c =
     let s = entry x in
     let a = s .args in
     let k = skips x .skipped in (
-      left-after (a .lo) (a .s) (x .after .result) (c .after2 .result) (k .result) (k .ensures) (x .after .ensures) (c .after2 .ensures) (s .pre .0 .0) (s .pre .0 .2) (s .pre .0 .3),
-      marked-agree (λ i. firstHold (a .s) (a .s .blocks - c .after2 .result .blocks) (a .lo + i)) (m .mark-short .ensures) (λ i _.
+      left-after (a .lo) (a .s) (x .after .result) (c .after2 .result) (k .result) (k .ensures) (x .after .ensures) (c .after2 .ensures) (s .pre .0 .0),
+      marked-agree (λ i. firstHold (a .s) (a .s .blocks - c .after2 .result .blocks) (a .lo + i)) (m .mark-rest .ensures) (λ i _.
           begun-holds (a .lo) (a .s) (x .after .result) (c .after2 .result) (k .result) (k .ensures) (x .after .ensures) (c .after2 .ensures) (a .lo + i) (omega arith)),
     )
 
 pub mark-begun-spec : {M : Type 1} → statement M
 mark-begun-spec =
-    tie.close (tie.spec returns skipped-requires after-requires mark-short-requires after-requires-2 same-length returns-2)
+    tie.close
+    (tie.spec
+    returns
+    skipped-requires
+    after-requires
+    mark-rest-requires
+    after-requires-2
+    same-length
+    returns-2)

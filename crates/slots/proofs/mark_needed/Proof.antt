@@ -1,7 +1,5 @@
 -- `slots::mark_needed` meets its contract: where no slot is free, a far record's mark leaves every octet. Assumes nothing.
-use native.Mathlib.Omega.{arith}
-use mathlib.Core.Path.{_≡_}
-use mathlib.Core.Bool.{true, and-eq-true-iff}
+use mathlib.Core.Bool.{and-eq-true-iff}
 use denote.Ref.{now}
 use lib.Dec.{eqb}
 use lib.ListN.{getD}

@@ -1,62 +1,53 @@
 -- `slots::mark_records` meets its contract: by the records so far and those to come each octet is what it is to be. Assumes nothing.
-use Prim.Native.Nat.{ℕ, _+_, _-_, _≤_}
+use Prim.Native.Nat.{ℕ, _-_, _≤_}
 use native.Mathlib.Omega.{arith}
-use mathlib.Core.Path.{_≡_, sym, ap, _∙_}
-use mathlib.Core.Bool.{false≢true}
 use mathlib.Core.List.{List}
 use denote.Ref.{now}
-use lib.ListN.{length, take}
 use borrow.Author.Needs.{needs}
 use borrow.Author.Tests.{eqb-true}
-use Rattle.record.specs.declared.Rec.{Rec}
 use Rattle.sound.specs.Sound.{records}
 use Rattle.table.specs.Memory.{channel}
 use Rattle.slots.specs.Steps.{recordsFrom, Raised}
-use Rattle.slots.proofs.SoFar.{SoFar, so-far-none, so-far-next, so-far-all, so-far-taken, reserved-too, raised-parts}
+use Rattle.slots.proofs.SoFar.{SoFar, so-far-none, so-far-next, so-far-all, so-far-taken, reserved-too}
 use Rattle.slots.proofs.mark_records.Statement.{statement}
 use Rattle.slots.proofs.mark_records.Tie as tie
 
 abbrev Inv-loop : tie.InvT-loop
-Inv-loop out₀ n s memory first lo end held i₀ taken₀ reserved₀ out i taken reserved =
-    SoFar n (s .m1) first i₀ held memory out₀ out i taken reserved
+Inv-loop out₀ n s memory first stairs lo end held taken₀ reserved₀ i₀ out taken reserved i =
+    SoFar n (s .m1) first held memory out₀ out i taken reserved
 
 abbrev μ-loop : tie.MeasureT-loop
-μ-loop out₀ n s memory first lo end held i₀ taken₀ reserved₀ out i taken reserved = held - i
+μ-loop out₀ n s memory first stairs lo end held taken₀ reserved₀ i₀ out taken reserved i = held - i
 
 -- ---- the places of what is known
 
-abbrev at-first : tie.At-loop Inv-loop μ-loop → tie.After-mark-some Inv-loop μ-loop
-at-first h = h .before .before .before
-
-abbrev at-least : tie.At-loop Inv-loop μ-loop → tie.After-lesser Inv-loop μ-loop
-at-least h = at-first h .before .before
-
 abbrev at-held : tie.At-loop Inv-loop μ-loop → tie.After-held-count Inv-loop μ-loop
-at-held h = at-least h .before
+at-held h = h .before
+
+abbrev at-stairs : tie.At-loop Inv-loop μ-loop → tie.After-make-stairs Inv-loop μ-loop
+at-stairs h = at-held h .before .before
 
 abbrev entry : tie.At-loop Inv-loop μ-loop → tie.Start Inv-loop μ-loop
-entry h = at-held h .before .before .before .before
+entry h = at-stairs h .before .before .before
 
-abbrev at-test : tie.After-lesser2 Inv-loop μ-loop → tie.In-loop Inv-loop μ-loop
+abbrev at-test : tie.After-lesser Inv-loop μ-loop → tie.In-loop Inv-loop μ-loop
 at-test l = l .before .before .before .before .before .before .before
 
-abbrev at-loop : tie.After-lesser2 Inv-loop μ-loop → tie.At-loop Inv-loop μ-loop
+abbrev at-loop : tie.After-lesser Inv-loop μ-loop → tie.At-loop Inv-loop μ-loop
 at-loop l = at-test l .before
 
--- what the first records marked, and then those after them: together those that the table holds
+-- the first records of the memory are those that the table holds
 held-all : (h : tie.At-loop Inv-loop μ-loop) {ys : List ℕ}
-    → let x = at-first h in
-    let a = entry h .args in
-    Raised (a .n) (a .s .m1) (recordsFrom (at-least h .lesser .result) (at-held h .held-count .result) (now (a .memory))) (a .first) (x .mark-some .last .0) ys
+    → let a = entry h .args in
+    Raised (a .n) (a .s .m1) (recordsFrom 0 (at-held h .held-count .result) (now (a .memory))) (a .first) (now (a .out)) ys
     → Raised (a .n) (a .s .m1) (records (channel (a .s) (now (a .memory)))) (a .first) (now (a .out)) ys
 unfolding records
-held-all h r =
-    let x = at-first h in
-    let l = at-least h .lesser in
-    let n = at-held h .held-count in
-    rw (n .ensures .2) at (raised-parts {xs = now (entry h .args .out)} {ys = x .mark-some .last .0} 0 (l .result) (n .result) (now (entry h .args .memory)) (omega arith) (omega (arith, l .ensures)) (n .ensures .1) (record { at = λ j b. x .mark-some .ensures .at j (omega arith) }) r)
+held-all h r = rw (at-held h .held-count .ensures .2) at r
 
 -- ---- the needs
+
+make-stairs-requires : tie.Need-make-stairs-requires Inv-loop μ-loop
+make-stairs-requires c κs = search needs
 
 add-end : tie.Need-add-end Inv-loop μ-loop
 add-end c = search needs
@@ -67,22 +58,8 @@ cast-held-count c = search needs
 held-count-requires : tie.Need-held-count-requires Inv-loop μ-loop
 held-count-requires c κs = search needs
 
-lesser-requires : tie.Need-lesser-requires Inv-loop μ-loop
-lesser-requires c κs = search needs
-
-mark-some-requires : tie.Need-mark-some-requires Inv-loop μ-loop
-mark-some-requires c κs =
-    let l = c .before in
-    let h = l .before in (
-      record { ahead = omega arith; behind = omega (arith, h .before .before .before .before .pre) },
-      omega (arith, l .lesser .ensures, h .held-count .ensures .1),
-      λ e. absurd (false≢true e),
-    )
-
 loop-holds : tie.Need-loop-holds Inv-loop μ-loop
-loop-holds c =
-    let l = c .before .before .before .before in
-    so-far-none (omega (arith, l .lesser .ensures))
+loop-holds c = so-far-none
 
 first-below-requires : tie.Need-first-below-requires Inv-loop μ-loop
 first-below-requires c κs =
@@ -115,17 +92,18 @@ first-below-requires-2 c κs =
 add-lesser : tie.Need-add-lesser Inv-loop μ-loop
 add-lesser c = search needs
 
-lesser-requires-2 : tie.Need-lesser-requires-2 Inv-loop μ-loop
-lesser-requires-2 c κs = search needs
+lesser-requires : tie.Need-lesser-requires Inv-loop μ-loop
+lesser-requires c κs = search needs
 
-mark-some-requires-2 : tie.Need-mark-some-requires-2 Inv-loop μ-loop
-mark-some-requires-2 c κs =
-    let l = c .before in
+mark-some-requires : tie.Need-mark-some-requires Inv-loop μ-loop
+mark-some-requires c κs =
+    let l = c .before .before in
     let r = l .before .first-below2 in
     let h = at-loop l in
     let e = entry h in (
       record { ahead = omega arith; behind = omega (arith, e .pre, h .loop .inv .same) },
-      omega (arith, l .lesser2 .ensures, at-held h .held-count .ensures .1),
+      at-stairs h .make-stairs .ensures,
+      omega (arith, l .lesser .ensures, at-held h .held-count .ensures .1),
       λ f. record { at = λ j b. r .ensures .1 .at j (omega (arith, eqb-true (r .result) (e .args .n) f)) },
     )
 
@@ -135,14 +113,14 @@ loop-less c = search needs
 loop-again : tie.Need-loop-again Inv-loop μ-loop
 loop-again c =
     let x = c .before .before in
-    let l = x .before .before in
+    let l = x .before .before .before in
     let h = at-loop l in
     let r = l .before .first-below2 in
     let t = l .before .before .before .before .before .first-below in
-    so-far-next (h .loop .inv) (l .lesser2 .result) (at-held h .held-count .ensures .1) (omega (arith, l .lesser2 .ensures, at-test l .loop-test .taken))
-    (omega (arith, l .lesser2 .ensures)) (x .mark-some2 .kept .0)
+    so-far-next (h .loop .inv) (l .lesser .result) (at-held h .held-count .ensures .1) (omega (arith, l .lesser .ensures, at-test l .loop-test .taken))
+    (omega (arith, l .lesser .ensures)) (x .mark-some .kept .0)
     (t .ensures .0) (t .ensures .1) (r .ensures .0) (r .ensures .1)
-    (record { at = λ j b. x .mark-some2 .ensures .at j (omega arith) })
+    (record { at = λ j b. x .mark-some .ensures .at j (omega arith) })
 
 same-length-2 : tie.Need-same-length-2 Inv-loop μ-loop
 same-length-2 c = search needs
@@ -156,11 +134,10 @@ mark-records-spec =
     (tie.spec
     Inv-loop
     μ-loop
+    make-stairs-requires
     add-end
     cast-held-count
     held-count-requires
-    lesser-requires
-    mark-some-requires
     loop-holds
     first-below-requires
     same-length
@@ -168,8 +145,8 @@ mark-records-spec =
     larger-requires
     first-below-requires-2
     add-lesser
-    lesser-requires-2
-    mark-some-requires-2
+    lesser-requires
+    mark-some-requires
     loop-less
     loop-again
     same-length-2

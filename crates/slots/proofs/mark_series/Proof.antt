@@ -1,31 +1,19 @@
--- `slots::mark_series` meets its contract: no block, none from lo on, one run, or blocks apart. Assumes nothing.
-use Prim.Native.Nat.{ℕ, _+_, _-_, _<_}
-use mathlib.Core.Path.{ap, _∙_}
+-- `slots::mark_series` meets its contract: nothing of a series that starts past the end or is over before lo; blocks apart, or any. Assumes nothing.
+use Prim.Native.Nat.{_+_, _-_}
 use native.Mathlib.Omega.{arith}
+use lib.Dec.{leb, ltb}
 use denote.Ref.{now}
 use borrow.Author.Needs.{needs}
-use Rattle.series.specs.Series.{inBlock}
-use Rattle.slots.specs.Steps.{holds}
-use Rattle.slots.proofs.Marks.{marked-none, marked-agree, marked-more, marked-within}
-use Rattle.slots.proofs.Blocks.{someBelow-none, holds-over, holds-all, not-over}
+use borrow.Author.Tests.{leb-false, ltb-false}
+use Rattle.octets.proofs.Refusals.{or-eq-false}
+use Rattle.slots.specs.Steps.{holdsIn}
+use Rattle.slots.proofs.Marks.{marked-none, marked-within}
+use Rattle.slots.proofs.Blocks.{holdsIn-outside}
 use Rattle.slots.proofs.mark_series.Statement.{statement}
 use Rattle.slots.proofs.mark_series.Tie as tie
 
-abbrev entry : tie.After-times → tie.Start
-entry t = t .before .before .before .before .before
-
--- where there is a block
-abbrev some : tie.After-times → tie.Else1
-some t = t .before .before
-
--- where the series is not over before lo
-abbrev run : tie.Else2 → tie.After-times
-run c = c .before .before .before
-
-returns : tie.Need-returns
-returns c =
-    let a = c .before .before .before .args in
-    marked-none (λ i. holds (a .s) (a .lo + i)) (now (a .out)) (λ i _. rw (c .if1 .taken) (someBelow-none _))
+abbrev entry : tie.Else1 → tie.Start
+entry c = c .before .before .before .before .before .before .before .before .before
 
 sub-times : tie.Need-sub-times
 sub-times c = search needs
@@ -33,97 +21,82 @@ sub-times c = search needs
 times-requires : tie.Need-times-requires
 times-requires c κs = search needs
 
-add-run : tie.Need-add-run
-add-run c = search needs
+add-last : tie.Need-add-last
+add-last c = search needs
 
-add-if2 : tie.Need-add-if2
-add-if2 c = search needs
+sub-times-2 : tie.Need-sub-times-2
+sub-times-2 c = search needs
 
-returns-2 : tie.Need-returns-2
-returns-2 c =
-    let t = c .before .before .before in
-    let a = entry t .args in
-    marked-none (λ i. holds (a .s) (a .lo + i)) (now (a .out)) (λ i _. holds-over (a .s) (a .lo + i) (omega (arith, t .times .ensures .0, c .if2 .taken)))
+times-requires-2 : tie.Need-times-requires-2
+times-requires-2 c κs = search needs
 
-mark-block-requires : tie.Need-mark-block-requires
-mark-block-requires c κs = search needs
+add-last-2 : tie.Need-add-last-2
+add-last-2 c = search needs
+
+add-lesser : tie.Need-add-lesser
+add-lesser c = search needs
+
+lesser-requires : tie.Need-lesser-requires
+lesser-requires c κs = search needs
+
+larger-requires : tie.Need-larger-requires
+larger-requires c κs = search needs
+
+returns : tie.Need-returns
+returns c =
+    let t₂ = c .before .before .before .before in
+    let t₁ = t₂ .before .before .before in
+    let a = t₁ .before .before .args in
+    marked-none (λ i. holdsIn (a .m1) (a .superframes) (a .s) (a .lo + i)) (now (a .out)) (λ i l.
+    holdsIn-outside (a .s) (a .lo + i) (a .m1) (a .superframes) (λ e.
+    omega (arith, t₁ .times .ensures .0, t₂ .times2 .ensures .0, c .if1 .taken, c .before .before .lesser .ensures, c .before .larger .ensures)))
+
+mark-any-superframes-requires : tie.Need-mark-any-superframes-requires
+mark-any-superframes-requires c κs =
+    let pre = entry (c .before .before .before .before) .pre .0 in
+    (pre .1, pre .3, pre .4, pre .5, pre .7, pre .6, pre .8)
 
 same-length : tie.Need-same-length
 same-length c = search needs
 
-returns-3 : tie.Need-returns-3
-returns-3 c =
+returns-2 : tie.Need-returns-2
+returns-2 c =
     let x = c .before .before in
-    let f = x .before .before in
-    let t = run (f .before .before) in
-    let s = entry t in
-    let a = s .args in
-    marked-agree (λ i. holds (a .s) (a .lo + i)) (marked-within (a .end - a .lo) (x .mark-block .ensures) (omega (arith, s .pre .0 .1 .behind))) (λ i _.
-    ap (λ (n : ℕ). inBlock (a .s .start) (n + a .s .length) (a .lo + i)) (t .times .ensures .0)
-    ∙ holds-all (a .s) (a .lo + i) (omega (arith, some t .if1 .left)) (f .if3 .taken))
+    let s = entry (x .before .before .before .before .before) in
+    marked-within (s .args .end - s .args .lo) (x .mark-any-superframes .ensures) (omega (arith, s .pre .0 .0 .behind))
 
-mark-each-requires : tie.Need-mark-each-requires
-mark-each-requires c κs = search needs
+mark-superframes-requires : tie.Need-mark-superframes-requires
+mark-superframes-requires c κs =
+    let f = c .before in
+    let s = entry (f .before .before .before) in
+    let pre = s .pre .0 in
+    let r = s .args .s in
+    let apart = or-eq-false (leb (r .spacing) (r .length)) (ltb 32 (r .length)) (f .if2 .left) in
+    ((pre .0, pre .1, pre .3, pre .4, pre .5, pre .7, pre .6, omega (arith, leb-false (r .spacing) (r .length) (apart .0)), omega (arith, ltb-false 32 (r .length) (apart .1))), s .pre .1)
 
 same-length-2 : tie.Need-same-length-2
 same-length-2 c = search needs
 
-returns-4 : tie.Need-returns-4
-returns-4 c =
-    let x = c .before .before in
-    let s = entry (run (x .before .before .before .before .before .before)) in
-    marked-within (s .args .end - s .args .lo) (x .mark-each .ensures) (omega (arith, s .pre .0 .1 .behind))
-
-mark-begun-requires : tie.Need-mark-begun-requires
-mark-begun-requires c κs =
-    let short = c .before in
-    let apart = short .before .before in
-    let on = apart .before .before in
-    let t = run on in
-    let s = entry t in
-    let a = s .args in
-    let blocks : 0 < a .s .blocks = omega (arith, some t .if1 .left) in
-    let gaps : a .s .length < a .s .spacing = omega (arith, apart .if3 .left) in
-    ((s .pre .0 .0, blocks, gaps, omega (arith, short .if4 .left), not-over (a .s) (a .lo) blocks gaps (omega (arith, on .if2 .left, t .times .ensures .0)), omega (arith, s .pre .0 .1 .ahead, s .pre .0 .1 .behind)), s .pre .1)
-
-mark-fitting-requires : tie.Need-mark-fitting-requires
-mark-fitting-requires c κs =
-    let b = c .before .before .before in
-    let s = entry (run (b .before .before .before .before .before .before)) in
-    let left = b .mark-begun .ensures .0 in (
-      (left .small, left .ahead, left .gaps, left .short, record { ahead = s .pre .0 .1 .ahead; behind = omega (arith, s .pre .0 .1 .behind, b .mark-begun .kept .0) }),
-      s .pre .1,
-    )
-
-same-length-3 : tie.Need-same-length-3
-same-length-3 c = search needs
-
-returns-5 : tie.Need-returns-5
-returns-5 c =
-    let f = c .before .before in
-    let b = f .before .before .before .before in
-    let s = entry (run (b .before .before .before .before .before .before)) in
-    let a = s .args in
-    marked-agree (λ i. holds (a .s) (a .lo + i)) (marked-more (marked-within (a .end - a .lo) (b .mark-begun .ensures .1) (omega (arith, s .pre .0 .1 .behind))) (f .mark-fitting .ensures)) (λ i _.
-    b .mark-begun .ensures .0 .parts (a .lo + i) (omega arith))
+returns-3 : tie.Need-returns-3
+returns-3 c = c .before .before .mark-superframes .ensures
 
 pub mark-series-spec : {M : Type 1} → statement M
 mark-series-spec =
     tie.close
     (tie.spec
-    returns
     sub-times
     times-requires
-    add-run
-    add-if2
-    returns-2
-    mark-block-requires
+    add-last
+    sub-times-2
+    times-requires-2
+    add-last-2
+    add-lesser
+    lesser-requires
+    larger-requires
+    returns
+    mark-any-superframes-requires
     same-length
-    returns-3
-    mark-each-requires
+    returns-2
+    mark-superframes-requires
     same-length-2
-    returns-4
-    mark-begun-requires
-    mark-fitting-requires
-    same-length-3
-    returns-5)
+    returns-3)

@@ -1,7 +1,7 @@
 -- `slots::mark_some` meets its contract: by the records so far and those still to come each octet is raised to the same. Assumes nothing.
 use Prim.Native.Nat.{ℕ, _+_, _-_, _<_, max}
 use native.Mathlib.Omega.{arith}
-use mathlib.Core.Path.{_≡_, refl, sym, _∙_}
+use mathlib.Core.Path.{_≡_, sym, _∙_}
 use mathlib.Core.Bool.{true}
 use denote.Ref.{now}
 use lib.ListN.{length, getD}
@@ -23,9 +23,6 @@ Inv-loop out₀ lo end m1 memory i n full stairs k₀ out k =
 abbrev μ-loop : tie.MeasureT-loop
 μ-loop out₀ lo end m1 memory i n full stairs k₀ out k = n - k
 
-make-stairs-requires : tie.Need-make-stairs-requires Inv-loop μ-loop
-make-stairs-requires c κs = search needs
-
 loop-holds : tie.Need-loop-holds Inv-loop μ-loop
 loop-holds c = search needs
 
@@ -44,14 +41,14 @@ loop-less c = search needs
 loop-again : tie.Need-loop-again Inv-loop μ-loop
 loop-again c =
     let x = c .before .before in
-    let load = x .before .before in
+    let load = x .before in
     let h = load .before .before .before in
-    let s = h .before .before .before .before in
+    let s = h .before .before .before in
     let a = s .args in
     let k = h .loop .k in
     let inv = h .loop .inv in
     let marked = x .mark-needed .ensures in
-    let next = toCome-next k (a .n) (now (a .memory)) (load .before .before .loop-test .taken) (s .pre .1) in (
+    let next = toCome-next k (a .n) (now (a .memory)) (load .before .before .loop-test .taken) (s .pre .2) in (
       x .mark-needed .kept .0 ∙ inv .0,
       (λ e. record { at = λ j l. rw (marked .at j l) (omega (arith, inv .1 e .at j l, marked-≥ (reserves (a .m1) (load .load .result) (a .lo + j)) (getD (h .loop .out) j 0) (markOf (load .load .result .far)))) }),
       (λ j l.
@@ -66,7 +63,7 @@ same-length c = search needs
 returns : tie.Need-returns Inv-loop μ-loop
 returns c =
     let h = c .before in
-    let a = h .before .before .before .before .args in
+    let a = h .before .before .before .args in
     let none = toCome-none (h .loop .k) (a .n) (now (a .memory)) (c .loop-test .left) in
     record {
       at = λ j l. sym (h .loop .inv .2 j l ∙ rw (none, number-none (a .m1) (a .lo + j)) (omega arith));
@@ -78,7 +75,6 @@ mark-some-spec =
     (tie.spec
     Inv-loop
     μ-loop
-    make-stairs-requires
     loop-holds
     load-requires
     mark-needed-requires

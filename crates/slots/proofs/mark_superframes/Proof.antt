@@ -44,13 +44,16 @@ loop-holds c =
     let a = c .before .args in
     (omega arith, omega arith, refl, marked-none _ (now (a .out)) (λ i _. someBelow-none _))
 
-mark-series-requires : tie.Need-mark-series-requires Inv-loop μ-loop
-mark-series-requires c κs =
+mark-superframe-requires : tie.Need-mark-superframe-requires Inv-loop μ-loop
+mark-superframe-requires c κs =
     let h = c .before .before in
     let pre = entry h .pre .0 in
     let b = mul-le-mul (pre .5) (pre .4) in (
       (
-        record { few = pre .5; close = pre .4; short = pre .6; early = omega (arith, h .loop .inv .1, past h, b, pre .3) },
+        record { few = pre .5; close = pre .4; short = omega (arith, pre .8); early = omega (arith, h .loop .inv .1, past h, b, pre .3) },
+        pre .6,
+        pre .7,
+        pre .8,
         record { ahead = pre .0 .ahead; behind = omega (arith, pre .0 .behind, h .loop .inv .2) },
       ),
       entry h .pre .1,
@@ -74,7 +77,7 @@ loop-again c =
     let h = t .before in
     let a = entry h .args in
     let inv = h .loop .inv in
-    let x = c .before .before .mark-series in
+    let x = c .before .before .mark-superframe in
     let k = h .loop .k in (
       omega (arith, turn t),
       omega (arith, inv .1),
@@ -109,7 +112,7 @@ mark-superframes-spec =
     Inv-loop
     μ-loop
     loop-holds
-    mark-series-requires
+    mark-superframe-requires
     add-start
     add-k
     loop-less
