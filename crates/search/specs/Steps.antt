@@ -25,13 +25,13 @@ pub record WellAsked (q : Query) (places : ℕ) : Type 0 where
 
 -- ---- a search as plain numbers
 
--- the state as three numbers, and the octets lent with it
-abbrev pub lent : ℕ → ℕ → ℕ → List ℕ → Channel
-lent m1 now count b = channel (record { m1 = m1; now = now; count = count }) b
+-- the channel of a state as three numbers, and of the octets lent with it
+abbrev pub channelBy : ℕ → ℕ → ℕ → List ℕ → Channel
+channelBy m1 now count b = channel (record { m1 = m1; now = now; count = count }) b
 
 -- what is asked, as four
-abbrev pub query : ℕ → ℕ → ℕ → ℕ → Query
-query lo hi length wanted = record { lo = lo; hi = hi; length = length; wanted = wanted }
+abbrev pub queryBy : ℕ → ℕ → ℕ → ℕ → Query
+queryBy lo hi length wanted = record { lo = lo; hi = hi; length = length; wanted = wanted }
 
 -- ---- octets of slot states
 

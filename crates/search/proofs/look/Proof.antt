@@ -14,7 +14,7 @@ use Rattle.slots.specs.Slots.{slotState}
 use Rattle.slots.specs.Window.{windowStates, raised}
 use Rattle.slots.proofs.Window.{window-room}
 use Rattle.search.specs.Search.{listed}
-use Rattle.search.specs.Steps.{lent, query, statesIn}
+use Rattle.search.specs.Steps.{channelBy, queryBy, statesIn}
 use Rattle.search.proofs.ByOctets.{take-replicate, listed-window}
 use Rattle.search.proofs.look.Statement.{statement}
 use Rattle.search.proofs.look.Tie as tie
@@ -83,8 +83,8 @@ returns c =
     let s = entry x in
     let a = s .args in
     let n = room s in
-    let asked = query (a .lo) (a .hi) (a .length) (a .wanted) in
-    let rs = records (lent (a .m1) (a .time) (a .count) (now (a .memory))) in
+    let asked = queryBy (a .lo) (a .hi) (a .length) (a .wanted) in
+    let rs = records (channelBy (a .m1) (a .time) (a .count) (now (a .memory))) in
     let rest = drop n (now (a .window)) in
     let wiped : take n (now (a .window)) ≡ replicate n 0 = ap (take n) (s .pre .1 .2) ∙ take-replicate n (length (now (a .window)) - 0) (omega (arith, room-≤ s)) in
     let e : x .raise .last .1 .1 .1 .0 ≡ holdsOnly n (windowStates (a .m1) rs (a .lo) (n - 32)) =
