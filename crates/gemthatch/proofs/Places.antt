@@ -1,49 +1,103 @@
--- The places of a search's list: beyond sixteen they make no difference, and the first hold what is found. Assumes nothing.
+-- The places of a search's list: what a search with sixteen or more says of one with any number of them, and which hold what is found. Assumes nothing.
 use Prim.Native.Nat.{ℕ, _-_, _≤_}
 use native.Mathlib.Omega.{arith}
 use mathlib.Core.Path.{_≡_, refl}
-use mathlib.Core.Bool.{Bool, true, false, cond}
-use mathlib.Core.List.{List, _++_, append-assoc}
-use lib.Dec.{ltb}
+use mathlib.Core.Bool.{Bool, true, false, not, _&&_, _||_, true≢false, false≢true}
+use mathlib.Core.List.{List, [], _∷_}
+use lib.Dec.{ltb, leb, eqb}
 use lib.ListN.{length, take, replicate}
 use lib.Seq.{take-at}
 use borrow.Author.Tests.{le-ltb}
-use Rattle.octets.specs.Refusals.{outside}
-use Rattle.octets.proofs.Refusals.{outside-false}
-use Rattle.sound.specs.Sound.{Channel}
+use Rattle.octets.specs.Lists.{has}
+use Rattle.octets.specs.Refusals.{firstOf, outside}
+use Rattle.octets.proofs.Refusals.{outside-false, answer-refused}
+use Rattle.sound.specs.Sound.{Channel, sound}
+use Rattle.table.specs.Memory.{tableOf}
 use Rattle.search.specs.declared.Query.{Query}
 use Rattle.search.specs.declared.Found.{Found}
-use Rattle.search.specs.Search.{searchRefusal, found, searched, listAfter}
+use Rattle.search.specs.Search.{qualifies, starts, statesOf, searchRefusal, found, searched, listAfter}
 
-module _ (m : Channel) (q : Query) (places others : ℕ) (h : 16 ≤ places) (k : 16 ≤ others) where
+-- ---- the refusal
+
+-- a search's refusal, by what each of its tests says
+abbrev refusalBy : Bool → Bool → Bool → Bool → Bool → Bool → ℕ
+refusalBy s r l w t z = firstOf ((11, s) ∷ (19, r) ∷ (9, l) ∷ (20, w) ∷ (1, t) ∷ (21, z) ∷ [])
+
+-- it is one that comes after 1 alone, or none
+abbrev pub afterPlaces : ℕ → Bool
+afterPlaces n = eqb n 0 || eqb n 21
+
+-- if too few places are no refusal unless too many are wanted, fewer places are the refusal 1 where a later one was given or none
+fewer-short : (s r l w t z t′ : Bool) → (w ≡ false → t ≡ false) → (afterPlaces (refusalBy s r l w t z) && t′) ≡ true → 1 ≡ refusalBy s r l w t′ z
+fewer-short true r l w t z t′ k h = absurd (false≢true h)
+fewer-short false true l w t z t′ k h = absurd (false≢true h)
+fewer-short false false true w t z t′ k h = absurd (false≢true h)
+fewer-short false false false true t z t′ k h = absurd (false≢true h)
+fewer-short false false false false true z t′ k h = absurd (true≢false (k refl))
+fewer-short false false false false false true true k h = refl
+fewer-short false false false false false true false k h = absurd (false≢true h)
+fewer-short false false false false false false true k h = refl
+fewer-short false false false false false false false k h = absurd (false≢true h)
+
+-- and else they make no difference
+fewer-alike : (s r l w t z t′ : Bool) → (w ≡ false → t ≡ false) → (afterPlaces (refusalBy s r l w t z) && t′) ≡ false
+    → refusalBy s r l w t z ≡ refusalBy s r l w t′ z
+fewer-alike true r l w t z t′ k h = refl
+fewer-alike false true l w t z t′ k h = refl
+fewer-alike false false true w t z t′ k h = refl
+fewer-alike false false false true t z t′ k h = refl
+fewer-alike false false false false true z t′ k h = absurd (true≢false (k refl))
+fewer-alike false false false false false true true k h = absurd (true≢false h)
+fewer-alike false false false false false true false k h = refl
+fewer-alike false false false false false false true k h = absurd (true≢false h)
+fewer-alike false false false false false false false k h = refl
+
+-- ---- with so many places, by the search with sixteen or more
+
+module _ (m : Channel) (q : Query) (all places : ℕ) (h : 16 ≤ all) where
+  -- the tests of 19 and 21
+  abbrev out-of-range : Bool
+  out-of-range =
+      ltb (q .lo) (tableOf m .now) || ltb (q .hi) (q .lo) || ltb 1_000_000_000 (q .hi) || leb (tableOf m .m1) (q .hi - q .lo)
+
+  abbrev none : Bool
+  none = not (has (qualifies (statesOf (tableOf m)) (q .length)) (starts q))
+
   -- more than 16 wanted is refused before the list's length is asked
-  short-alike : (rest : ℕ)
-      → cond (outside 1 16 (q .wanted)) 20 (cond (ltb places (q .wanted)) 1 rest) ≡ cond (outside 1 16 (q .wanted)) 20 (cond (ltb others (q .wanted)) 1 rest)
-  short-alike rest = go (outside 1 16 (q .wanted)) refl
-    where
-      go : (b : Bool) → outside 1 16 (q .wanted) ≡ b → cond b 20 (cond (ltb places (q .wanted)) 1 rest) ≡ cond b 20 (cond (ltb others (q .wanted)) 1 rest)
-      go true e = refl
-      go false e =
-          let w = outside-false 1 16 (q .wanted) e in
-          rw (le-ltb places (q .wanted) (omega arith), le-ltb others (q .wanted) (omega arith))
+  room : outside 1 16 (q .wanted) ≡ false → ltb all (q .wanted) ≡ false
+  room e =
+      let w = outside-false 1 16 (q .wanted) e in
+      le-ltb all (q .wanted) (omega arith)
 
-  -- so the refusal is the same, and with it all that a search gives
-  searchRefusal-alike : searchRefusal m q places ≡ searchRefusal m q others
+  -- the refusal is 1
+  pub searchRefusal-short : (afterPlaces (searchRefusal m q all) && ltb places (q .wanted)) ≡ true → 1 ≡ searchRefusal m q places
   unfolding searchRefusal
-  searchRefusal-alike = rw (short-alike _)
+  searchRefusal-short = fewer-short (not (sound m)) out-of-range (outside 1 32 (q .length)) _ _ none (ltb places (q .wanted)) room
 
-  pub found-alike : found m q places ≡ found m q others
-  unfolding found
-  found-alike = rw searchRefusal-alike
+  module _ (k : (afterPlaces (searchRefusal m q all) && ltb places (q .wanted)) ≡ false) where
+    -- or the same, and with it all that a search gives
+    searchRefusal-alike : searchRefusal m q all ≡ searchRefusal m q places
+    unfolding searchRefusal
+    searchRefusal-alike = fewer-alike (not (sound m)) out-of-range (outside 1 32 (q .length)) _ _ none (ltb places (q .wanted)) room k
 
-  pub searched-alike : searched m q places ≡ searched m q others
-  unfolding searched
-  searched-alike = rw (searchRefusal-alike, found-alike)
+    pub found-alike : found m q all ≡ found m q places
+    unfolding found
+    found-alike = rw searchRefusal-alike
 
--- the starts found stand in front of whatever follows the list
-pub found-front : (m : Channel) (q : Query) (places : ℕ) (f : Found) (list rest : List ℕ) → f ≡ searched m q places → list ≡ listAfter m q places
-    → take (f .number) (list ++ rest) ≡ found m q places
+    pub searched-alike : searched m q all ≡ searched m q places
+    unfolding searched
+    searched-alike = rw (searchRefusal-alike, found-alike)
+
+-- ---- what is found
+
+-- none where the refusal is 1
+pub found-short : (m : Channel) (q : Query) (places : ℕ) → 1 ≡ searchRefusal m q places → [] ≡ found m q places
+unfolding found
+found-short m q places e = answer-refused _ (λ _. []) e (λ z. omega arith)
+
+-- the starts found stand in front
+pub found-front : (m : Channel) (q : Query) (places : ℕ) (f : Found) (list : List ℕ) → f ≡ searched m q places → list ≡ listAfter m q places
+    → take (f .number) list ≡ found m q places
 unfolding searched listAfter
-found-front m q places f list rest e l =
-    let none : List ℕ = replicate (places - length (found m q places)) 0 in
-    rw (e, l, append-assoc) (take-at (found m q places) (none ++ rest) (length (found m q places)) refl)
+found-front m q places f list e l =
+    rw (e, l) (take-at (found m q places) (replicate (places - length (found m q places)) 0) (length (found m q places)) refl)

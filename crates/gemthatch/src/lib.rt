@@ -101,16 +101,22 @@ fn put_numbers(list: &mut [u8], numbers: &[u32], n: usize)
     }
 }
 
-// A search with a list of so many places. It never fills more than 16, so a longer list is as good as one of 16.
+// A search with a list of so many places. It never fills more than 16, and with fewer only the refusal 1 comes in before the slots are
+// looked at: so all 16 are handed on, and are wiped as one.
 fn search_places(s: State, memory: &[u8], q: Query, starts: &mut [u32], places: usize) -> Found
     requires { ⌜ 16 ≤ length (now starts) ⌝ }
     ensures answer { λ r. ⌜ r ≡ searched (channel s (now (memory .entry))) q places ⌝ }
     ensures starts { λ r. ⌜ take (r .number) (now (starts .exit)) ≡ found (channel s (now (memory .entry))) q places ⌝ }
 {
-    if places < starts.len() {
-        return search::search(s, memory, q, &mut starts[..places]);
+    let f = search::search(s, memory, q, starts);
+    let asked = (f.refusal == 0) | (f.refusal == 21);
+    if asked & (places < q.wanted as usize) {
+        return Found {
+            refusal: 1,
+            number: 0,
+        };
     }
-    search::search(s, memory, q, starts)
+    f
 }
 
 // ---- the nine octets, the rates, the parameters

@@ -225,6 +225,7 @@ fn skipped(lo: u64, s: Series) -> u64
 }
 
 // Marks the blocks of a series that start before a stop, the first of them at lo or behind it, of at most so many slots as they are wide.
+// How many they are, j, only the proof asks.
 fn mark_ahead(
     out: &mut [u8],
     lo: u64,

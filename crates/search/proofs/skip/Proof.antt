@@ -1,7 +1,6 @@
 -- `search::skip` meets its contract: each start below the one that the loop has come to is passed over. Assumes nothing.
-use Prim.Native.Nat.{_-_, _+_, _<_, _≤_}
+use Prim.Native.Nat.{_-_, _+_, _≤_}
 use native.Mathlib.Omega.{arith}
-use mathlib.Core.Path.{_≡_}
 use denote.Ref.{now}
 use borrow.Author.Needs.{needs}
 use Rattle.search.specs.Steps.{Passed}
