@@ -1,6 +1,6 @@
 /*
- * The search in plain C: what a careful programmer writes for speed with the archive's checks in the archive's order. An octet to a slot is
- * marked record by record, and then gone along. It reads numbers as x86-64 has them in memory. There are no intrinsics: of loops over a fixed
+ * The search in plain C, written for speed, with the archive's checks in the archive's order. An octet to a slot is marked record by record,
+ * and then gone along. It reads numbers as x86-64 has them in memory. There are no intrinsics: of loops over a fixed
  * number of octets the compiler makes vectors.
  */
 #include <stddef.h>
@@ -61,7 +61,7 @@ static inline Record record_at(const Table *table, uint32_t i)
     return record;
 }
 
-/* One past the last slot of a record. A single block is not divided for. */
+/* One past the last slot of a record. */
 static inline uint32_t past(const Record *record, uint32_t m1, uint32_t spacing)
 {
     return record->first + (record->superframes - 1) * m1 + (record->rate - 1) * spacing + record->length;
@@ -155,6 +155,7 @@ static inline void mark_superframe(Window w, const Record *record, uint32_t star
 
 static inline void mark(Window w, const Record *record, uint32_t m1)
 {
+    /* A single block is not divided for. */
     const uint32_t spacing = record->rate == 1 ? m1 : m1 / record->rate;
     /* One test, and no branch by which side of the window a record lies on: it would often be guessed wrong. */
     if (smaller(past(record, m1, spacing), w.end) <= larger(record->first, w.lo))
