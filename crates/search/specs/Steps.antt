@@ -7,10 +7,8 @@ use lib.Dec.{ltb, eqb}
 use lib.ListN.{length as len, take, set, getD}
 use Rattle.octets.specs.Lists.{keep, every, from}
 use Rattle.octets.specs.Octets.{holdsOnly}
-use Rattle.sound.specs.Sound.{Channel}
 use Rattle.slots.specs.declared.Slot.{Slot}
 use Rattle.slots.specs.declared.Slot.the-variants.{Free, Reusable, Taken}
-use Rattle.table.specs.Memory.{channel}
 use Rattle.search.specs.declared.Query.{Query}
 use Rattle.search.specs.Search.{level0, level1}
 
@@ -22,16 +20,6 @@ pub record WellAsked (q : Query) (places : ℕ) : Type 0 where
   pub some-wanted : 0 < q .wanted
   pub few : q .wanted ≤ 16
   pub has-room : q .wanted ≤ places
-
--- ---- a search as plain numbers
-
--- the channel of a state as three numbers, and of the octets lent with it
-abbrev pub channelBy : ℕ → ℕ → ℕ → List ℕ → Channel
-channelBy m1 now count b = channel (record { m1 = m1; now = now; count = count }) b
-
--- what is asked, as four
-abbrev pub queryBy : ℕ → ℕ → ℕ → ℕ → Query
-queryBy lo hi length wanted = record { lo = lo; hi = hi; length = length; wanted = wanted }
 
 -- ---- octets of slot states
 

@@ -10,7 +10,7 @@ ghost use Rattle.octets.specs.Octets.{holdsOnly};
 ghost use Rattle.octets.specs.Refusals.{firstOf};
 ghost use Rattle.table.specs.Memory.{channel, tableOf};
 ghost use Rattle.search.specs.Search.{statesOf, queryTests, listed, listAfter, searched, picked};
-ghost use Rattle.search.specs.Steps.{WellAsked, channelBy, queryBy, statesIn, octetBelow, streak, blockBelow, Skipped, boundBy, pushedNext, pushed, Scanned};
+ghost use Rattle.search.specs.Steps.{WellAsked, statesIn, octetBelow, streak, blockBelow, Skipped, boundBy, pushedNext, pushed, Scanned};
 ghost use Rattle.search.specs.Claims.{Claims};
 
 // What a search is given: where a block may start, its length, and how many starts are wanted.
@@ -248,10 +248,10 @@ fn look(
     list: &mut [u32],
     later: &mut [u32],
 ) -> usize
-    requires { ⌜ WellAsked (queryBy lo hi length wanted) (len (now list)) × (wanted ≤ len (now later)) × (hi + length + 32 ≤ lo + len (now window)) ⌝ }
+    requires { ⌜ WellAsked (record { lo = lo; hi = hi; length = length; wanted = wanted }) (len (now list)) × (wanted ≤ len (now later)) × (hi + length + 32 ≤ lo + len (now window)) ⌝ }
     requires { ⌜ (now list ≡ holdsOnly (len (now list)) []) × (now later ≡ holdsOnly (len (now later)) []) × (now window ≡ holdsOnly (len (now window)) []) ⌝ }
-    ensures number { λ r. ⌜ r ≡ len (listed (statesOf (tableOf (channelBy m1 time count (now (memory .entry))))) (queryBy lo hi length wanted)) ⌝ }
-    ensures list { λ _. ⌜ now (list .exit) ≡ holdsOnly (len (now (list .entry))) (listed (statesOf (tableOf (channelBy m1 time count (now (memory .entry))))) (queryBy lo hi length wanted)) ⌝ }
+    ensures number { λ r. ⌜ r ≡ len (listed (statesOf (tableOf (channel (record { m1 = m1; now = time; count = count }) (now (memory .entry))))) (record { lo = lo; hi = hi; length = length; wanted = wanted })) ⌝ }
+    ensures list { λ _. ⌜ now (list .exit) ≡ holdsOnly (len (now (list .entry))) (listed (statesOf (tableOf (channel (record { m1 = m1; now = time; count = count }) (now (memory .entry))))) (record { lo = lo; hi = hi; length = length; wanted = wanted })) ⌝ }
 {
     let s = State {
         m1,

@@ -9,12 +9,13 @@ use lib.Seq.{length-take-le}
 use borrow.Author.Needs.{needs}
 use Rattle.octets.specs.Octets.{zeroFrom, holdsOnly}
 use Rattle.sound.specs.Sound.{records}
-use Rattle.table.specs.Memory.{tableOf}
+use Rattle.table.specs.Memory.{channel, tableOf}
 use Rattle.slots.specs.Slots.{slotState}
 use Rattle.slots.specs.Window.{windowStates, raised}
 use Rattle.slots.proofs.Window.{window-room}
+use Rattle.search.specs.declared.Query.{Query}
 use Rattle.search.specs.Search.{listed}
-use Rattle.search.specs.Steps.{channelBy, queryBy, statesIn}
+use Rattle.search.specs.Steps.{statesIn}
 use Rattle.search.proofs.ByOctets.{take-replicate, listed-window}
 use Rattle.search.proofs.look.Statement.{statement}
 use Rattle.search.proofs.look.Tie as tie
@@ -83,8 +84,8 @@ returns c =
     let s = entry x in
     let a = s .args in
     let n = room s in
-    let asked = queryBy (a .lo) (a .hi) (a .length) (a .wanted) in
-    let rs = records (channelBy (a .m1) (a .time) (a .count) (now (a .memory))) in
+    let asked : Query = record { lo = a .lo; hi = a .hi; length = a .length; wanted = a .wanted } in
+    let rs = records (channel (record { m1 = a .m1; now = a .time; count = a .count }) (now (a .memory))) in
     let rest = drop n (now (a .window)) in
     let wiped : take n (now (a .window)) ≡ replicate n 0 = ap (take n) (s .pre .1 .2) ∙ take-replicate n (length (now (a .window)) - 0) (omega (arith, room-≤ s)) in
     let e : x .raise .last .1 .1 .1 .0 ≡ holdsOnly n (windowStates (a .m1) rs (a .lo) (n - 32)) =
