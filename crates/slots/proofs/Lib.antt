@@ -2,7 +2,6 @@ pub mod Judged
 pub mod Looks
 pub mod Tests
 pub mod Marks
-pub mod Stairs
 pub mod Blocks
 pub mod Numbers
 pub mod SoFar

@@ -1,13 +1,13 @@
 -- Laws of `MarkedWhere` and of marks. Assumes nothing.
-use Prim.Native.Nat.{ℕ, _<_, _≤_, max}
+use Prim.Native.Nat.{ℕ, _+_, _-_, _*_, _<_, _≤_, min, max}
 use native.Mathlib.Omega.{arith}
 use mathlib.Core.Path.{_≡_, refl, _∙_}
 use mathlib.Core.Bool.{Bool, true, false, cond, _||_}
 use mathlib.Core.List.{List}
-use lib.Dec.{eqb}
+use lib.Dec.{ltb, eqb}
 use lib.ListN.{length, getD, set}
 use lib.Seq.{getD-set-same, getD-set-other}
-use borrow.Author.Tests.{eqb-true, eqb-false}
+use borrow.Author.Tests.{eqb-true, eqb-false, ltb-true, ltb-false}
 use Rattle.slots.specs.Steps.{markOf, MarkedWhere}
 
 -- within fewer octets
@@ -50,10 +50,18 @@ marked-set {mark} {p} q {xs} {ys} i w m e l h f g = record { at = λ k n. go k n
     go k n true d = rw (eqb-true k i d) (getD-set-same ys i (max (getD ys i 0) w) 0 (omega arith) ∙ same)
     go k n false d = getD-set-other ys i k (max (getD ys i 0) w) 0 (eqb-false k i d) ∙ rw (← f k (eqb-false k i d)) (m .at k n)
 
--- a mark is 1 or 2
-pub mark-some : (far : ℕ) → (1 ≤ markOf far) × (markOf far ≤ 2)
-mark-some far = go (eqb far 1)
+-- no mark is above 2
+pub mark-≤ : (far : ℕ) → markOf far ≤ 2
+mark-≤ far = go (eqb far 1)
   where
-    go : (b : Bool) → (1 ≤ cond b 1 2) × (cond b 1 2 ≤ 2)
-    go true = (omega arith, omega arith)
-    go false = (omega arith, omega arith)
+    go : (b : Bool) → cond b 1 2 ≤ 2
+    go true = omega arith
+    go false = omega arith
+
+-- three for each slot of a block, less one and three for each slot before a place: no less than a mark in the block, 0 behind it
+pub mark-by-place : (mark length d : ℕ) → mark ≤ 2 → min mark (length * 3 - (d * 3 + 1)) ≡ cond (ltb d length) mark 0
+mark-by-place mark length d h = go (ltb d length) refl
+  where
+    go : (t : Bool) → ltb d length ≡ t → min mark (length * 3 - (d * 3 + 1)) ≡ cond t mark 0
+    go true e = omega (arith, ltb-true d length e)
+    go false e = omega (arith, ltb-false d length e)

@@ -55,22 +55,26 @@ module _ {n m1 first held : ℕ} {memory xs : List ℕ} where
       }
 
   module _ {ys : List ℕ} {i taken reserved : ℕ} (s : SoFar n m1 first held memory xs ys i taken reserved) where
-    -- some records more, once the slots seen to be taken and reserved are counted anew
-    pub so-far-next : (k : ℕ) {taken′ reserved′ : ℕ} {zs : List ℕ} → held ≤ capacity memory → i ≤ k → k ≤ held → length zs ≡ length ys
-        → taken′ ≤ n → AtLeast taken′ 2 ys → reserved′ ≤ n → AtLeast reserved′ 1 ys → Raised n m1 (recordsFrom i k memory) first ys zs
-        → SoFar n m1 first held memory xs zs k taken′ reserved′
-    so-far-next k f h l e tn t rn r raised =
+    -- some records more
+    pub so-far-next : (k : ℕ) {zs : List ℕ} → held ≤ capacity memory → i ≤ k → k ≤ held → length zs ≡ length ys
+        → Raised n m1 (recordsFrom i k memory) first ys zs → SoFar n m1 first held memory xs zs k taken reserved
+    so-far-next k f h l e raised =
         record {
           within = l;
           same = e ∙ s .same;
-          taken-≤ = tn;
-          reserved-≤ = rn;
-          taken-all = record { at = λ j b. rw (raised .at j (omega arith)) (omega (arith, t .at j b)) };
-          reserved-all = record { at = λ j b. rw (raised .at j (omega arith)) (omega (arith, r .at j b)) };
+          taken-≤ = s .taken-≤;
+          reserved-≤ = s .reserved-≤;
+          taken-all = record { at = λ j b. rw (raised .at j (omega (arith, s .taken-≤))) (omega (arith, s .taken-all .at j b)) };
+          reserved-all = record { at = λ j b. rw (raised .at j (omega (arith, s .reserved-≤))) (omega (arith, s .reserved-all .at j b)) };
           to-come = λ j b.
               s .to-come j b
               ∙ rw (recordsFrom-parts i k held memory h l f, number-append m1 (first + j) (recordsFrom i k memory) (recordsFrom k held memory), raised .at j b) (omega arith);
         }
+
+    -- the slots seen to be taken and reserved counted anew
+    pub so-far-seen : {taken′ reserved′ : ℕ} → taken′ ≤ n → AtLeast taken′ 2 ys → reserved′ ≤ n → AtLeast reserved′ 1 ys → SoFar n m1 first held memory xs ys i taken′ reserved′
+    so-far-seen tn t rn r =
+        record { within = s .within; same = s .same; taken-≤ = tn; reserved-≤ = rn; taken-all = t; reserved-all = r; to-come = s .to-come }
 
     -- no record is left
     pub so-far-all : held ≤ i → Raised n m1 (recordsFrom 0 held memory) first xs ys

@@ -31,13 +31,13 @@ leb-same a b c d f g = agree (leb a b) (leb c d) (λ h. le-leb c d (f (leb-true 
 pub ltb-same : (a b c d : ℕ) → (a < b → c < d) → (c < d → a < b) → ltb a b ≡ ltb c d
 ltb-same a b c d f g = agree (ltb a b) (ltb c d) (λ h. lt-ltb c d (f (ltb-true a b h))) (λ h. lt-ltb a b (g (ltb-true c d h)))
 
--- the places of a window from lo on that a block holds
-pub fromUpTo-block : (lo start length n i : ℕ) → i < n → fromUpTo (start - lo) (min (start + length - lo) n) i ≡ inBlock start length (lo + i)
+-- the places of a window from lo up to an end that a block holds
+pub fromUpTo-block : (lo end start length i : ℕ) → i < end - lo → fromUpTo (start - lo) (min (start + length) end - lo) i ≡ inBlock start length (lo + i)
 unfolding inBlock
-fromUpTo-block lo start length n i l =
+fromUpTo-block lo end start length i l =
     rw (
       leb-same (start - lo) i start (lo + i) (λ h. omega arith) (λ h. omega arith),
-      ltb-same i (min (start + length - lo) n) (lo + i) (start + length) (λ h. omega arith) (λ h. omega arith),
+      ltb-same i (min (start + length) end - lo) (lo + i) (start + length) (λ h. omega arith) (λ h. omega arith),
     )
 
 -- a block at a place, seen from the window's first slot

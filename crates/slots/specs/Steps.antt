@@ -92,11 +92,6 @@ pub record WindowFits (lo end : ℕ) (out : List ℕ) : Type 0 where
   pub ahead : lo ≤ end
   pub behind : end + 32 ≤ lo + length out
 
--- n of the 64 places for each of the two marks hold it, and the others 0: with 32, n marks and then zeros stand from 32 - n on
-pub record Stairs (n : ℕ) (xs : List ℕ) : Type 0 where
-  pub ones : (i : ℕ) → i < 64 → getD xs i 0 ≡ cond (ltb i n) 1 0
-  pub twos : (i : ℕ) → i < 64 → getD xs (64 + i) 0 ≡ cond (ltb i n) 2 0
-
 -- ---- the records of a table
 
 -- those of a memory from i up to n

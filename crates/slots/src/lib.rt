@@ -12,7 +12,7 @@ ghost use Rattle.sound.specs.Sound.{records};
 ghost use Rattle.table.specs.Memory.{channel};
 ghost use Rattle.slots.specs.Slots.{slotState, slotAnswer};
 ghost use Rattle.slots.specs.Window.{windowStates, windowSlots, raised};
-ghost use Rattle.slots.specs.Steps.{holdsMore, markOf, firstHold, holds, holdsBefore, holdsIn, after, recordsFrom, Small, Skips, Left, MarkedWhere, fromUpTo, WindowFits, Stairs, Raised, AtLeast};
+ghost use Rattle.slots.specs.Steps.{holdsMore, markOf, firstHold, holds, holdsBefore, holdsIn, after, recordsFrom, Small, Skips, Left, MarkedWhere, fromUpTo, WindowFits, Raised, AtLeast};
 ghost use Rattle.slots.specs.Claims.{Claims};
 
 // A slot's state.
@@ -101,7 +101,7 @@ fn greater(octet: u8, mark: u8) -> u8
     octet
 }
 
-fn lesser(a: u64, b: u64) -> u64
+fn smaller(a: u8, b: u8) -> u8
     ensures { λ r. ⌜ r ≡ min a b ⌝ }
 {
     if a < b {
@@ -110,6 +110,17 @@ fn lesser(a: u64, b: u64) -> u64
     b
 }
 
+// a less b, 0 where b is greater.
+fn minus(a: u8, b: u8) -> u8
+    ensures { λ r. ⌜ r ≡ a - b ⌝ }
+{
+    if a < b {
+        return 0;
+    }
+    a - b
+}
+
+// The same three in 64 bits.
 fn larger(a: u64, b: u64) -> u64
     ensures { λ r. ⌜ r ≡ max a b ⌝ }
 {
@@ -119,7 +130,15 @@ fn larger(a: u64, b: u64) -> u64
     a
 }
 
-// a less b, 0 where b is greater.
+fn lesser(a: u64, b: u64) -> u64
+    ensures { λ r. ⌜ r ≡ min a b ⌝ }
+{
+    if a < b {
+        return a;
+    }
+    b
+}
+
 fn less(a: u64, b: u64) -> u64
     ensures { λ r. ⌜ r ≡ a - b ⌝ }
 {
@@ -151,53 +170,38 @@ fn mark_run(out: &mut [u8], from: usize, to: usize, mark: u8)
     }
 }
 
-// Marks those slots of a block that lie in the window from lo on.
-fn mark_block(out: &mut [u8], lo: u64, start: u64, length: u64, mark: u8)
-    requires { ⌜ (start ≤ 4398046511104) × (length ≤ 4398046511104) ⌝ }
-    ensures { λ _. ⌜ MarkedWhere (len (now (out .entry))) mark (λ i. inBlock start length (lo + i)) (now (out .entry)) (now (out .exit)) ⌝ }
+// Marks those slots of a block that lie in the window from lo up to an end.
+fn mark_block(out: &mut [u8], lo: u64, end: u64, start: u64, length: u64, mark: u8)
+    requires { ⌜ WindowFits lo end (now out) × (start ≤ 4398046511104) × (length ≤ 4398046511104) ⌝ }
+    ensures { λ _. ⌜ MarkedWhere (end - lo) mark (λ i. inBlock start length (lo + i)) (now (out .entry)) (now (out .exit)) ⌝ }
 {
-    let n = out.len() as u64;
     let from = less(start, lo);
-    let to = lesser(less(start + length, lo), n);
+    let to = less(lesser(start + length, end), lo);
     mark_run(out, from as usize, to as usize, mark);
 }
 
 // Marks a block of at most so many slots as it is wide, all of them at once: so many octets from its place on are raised, those behind the
-// block to 0.
-fn mark_wide(out: &mut [u8], at: usize, length: usize, mark: u8, stairs: &[u8; 128], width: usize)
-    requires { ⌜ (at + 32 ≤ len (now out)) × (length ≤ width) × (width ≤ 32) × (1 ≤ mark) × (mark ≤ 2) × Stairs 32 (now stairs) ⌝ }
+// block to 0. Three for each slot of the block, less one and three for each slot before: in the block that is 2 at least, behind it 0. The one
+// makes all places alike to the compiler.
+fn mark_wide(out: &mut [u8], at: usize, length: u8, mark: u8, width: u8)
+    requires { ⌜ (at + 32 ≤ len (now out)) × (length ≤ width) × (width ≤ 32) × (mark ≤ 2) ⌝ }
     ensures { λ _. ⌜ MarkedWhere (len (now (out .entry))) mark (inBlock at length) (now (out .entry)) (now (out .exit)) ⌝ }
 {
-    let step = mark as usize * 64 - 32 - length;
-    let mut d = 0;
+    let edge = length * 3;
+    let mut d = 0u8;
     while d < width {
-        out[at + d] = greater(out[at + d], stairs[step + d]);
+        let place = at + d as usize;
+        out[place] = greater(out[place], smaller(mark, minus(edge, d * 3 + 1)));
         d += 1;
     }
 }
 
 // Marks what a block that started by lo, of at most so many slots as it is wide, has left in the window.
-fn mark_rest(
-    out: &mut [u8],
-    lo: u64,
-    start: u64,
-    length: u64,
-    mark: u8,
-    stairs: &[u8; 128],
-    width: usize,
-)
-    requires { ⌜ (start ≤ lo) × (lo ≤ 4398046511104) × (32 ≤ len (now out)) × (length ≤ width) × (width ≤ 32) ⌝ }
-    requires { ⌜ (1 ≤ mark) × (mark ≤ 2) × Stairs 32 (now stairs) ⌝ }
+fn mark_rest(out: &mut [u8], lo: u64, start: u64, length: u64, mark: u8, width: u8)
+    requires { ⌜ (start ≤ lo) × (lo ≤ 4398046511104) × (32 ≤ len (now out)) × (length ≤ width) × (width ≤ 32) × (mark ≤ 2) ⌝ }
     ensures { λ _. ⌜ MarkedWhere (len (now (out .entry))) mark (λ i. inBlock start length (lo + i)) (now (out .entry)) (now (out .exit)) ⌝ }
 {
-    mark_wide(
-        out,
-        0,
-        less(start + length, lo) as usize,
-        mark,
-        stairs,
-        width,
-    );
+    mark_wide(out, 0, less(start + length, lo) as u8, mark, width);
 }
 
 // ---- a series of blocks, in a window from lo up to an end behind which there are 32 octets more
@@ -226,47 +230,25 @@ fn skipped(lo: u64, s: Series) -> u64
 
 // Marks the blocks of a series that start before a stop, the first of them at lo or behind it, of at most so many slots as they are wide.
 // How many they are, j, only the proof asks.
-fn mark_ahead(
-    out: &mut [u8],
-    lo: u64,
-    stop: u64,
-    s: Series,
-    mark: u8,
-    stairs: &[u8; 128],
-    width: usize,
-)
-    requires { ⌜ Small s × (lo ≤ s .start) × (s .length < s .spacing) × (s .length ≤ width) × (width ≤ 32) × (stop ≤ s .start + s .blocks * s .spacing) × (stop + 32 ≤ lo + len (now out)) ⌝ }
-    requires { ⌜ (1 ≤ mark) × (mark ≤ 2) × Stairs 32 (now stairs) ⌝ }
+fn mark_ahead(out: &mut [u8], lo: u64, stop: u64, s: Series, mark: u8, width: u8)
+    requires { ⌜ Small s × (lo ≤ s .start) × (lo ≤ stop) × (s .length < s .spacing) × (s .length ≤ width) × (width ≤ 32) × (stop ≤ s .start + s .blocks * s .spacing) × (stop + 32 ≤ lo + len (now out)) × (mark ≤ 2) ⌝ }
     ensures { λ _. ⌜ MarkedWhere (len (now (out .entry))) mark (λ i. holdsBefore stop s (lo + i)) (now (out .entry)) (now (out .exit)) ⌝ }
 {
-    let mut start = s.start;
+    let behind = (stop - lo) as usize;
+    let length = s.length as u8;
+    let mut at = (s.start - lo) as usize;
     let mut j = 0u64;
-    while start < stop {
-        mark_wide(
-            out,
-            (start - lo) as usize,
-            s.length as usize,
-            mark,
-            stairs,
-            width,
-        );
-        start += s.spacing;
+    while at < behind {
+        mark_wide(out, at, length, mark, width);
+        at += s.spacing as usize;
         j += 1;
     }
 }
 
 // Of a series whose blocks lie apart, of at most so many slots each as they are wide, marks the block that started before lo and may not be
 // over; the series that is left, from lo on.
-fn mark_begun(
-    out: &mut [u8],
-    lo: u64,
-    s: Series,
-    mark: u8,
-    stairs: &[u8; 128],
-    width: usize,
-) -> Series
-    requires { ⌜ Small s × (0 < s .blocks) × (s .length < s .spacing) × (s .length ≤ width) × (width ≤ 32) × (lo < s .start + s .blocks * s .spacing) × (32 ≤ len (now out)) ⌝ }
-    requires { ⌜ (1 ≤ mark) × (mark ≤ 2) × Stairs 32 (now stairs) ⌝ }
+fn mark_begun(out: &mut [u8], lo: u64, s: Series, mark: u8, width: u8) -> Series
+    requires { ⌜ Small s × (0 < s .blocks) × (s .length < s .spacing) × (s .length ≤ width) × (width ≤ 32) × (lo < s .start + s .blocks * s .spacing) × (32 ≤ len (now out)) × (mark ≤ 2) ⌝ }
     ensures left { λ r. ⌜ Left lo s r ⌝ }
     ensures marked { λ r. ⌜ MarkedWhere (len (now (out .entry))) mark (λ i. firstHold s (s .blocks - r .blocks) (lo + i)) (now (out .entry)) (now (out .exit)) ⌝ }
 {
@@ -274,43 +256,25 @@ fn mark_begun(
         return s;
     }
     let reaching = after(s, skipped(lo, s));
-    mark_rest(
-        out,
-        lo,
-        reaching.start,
-        reaching.length,
-        mark,
-        stairs,
-        width,
-    );
+    mark_rest(out, lo, reaching.start, reaching.length, mark, width);
     after(reaching, 1)
 }
 
 // Marks the blocks of a series that lie apart, of at most so many slots each as they are wide. Where they end is worked out before how many are
 // left out, which takes a division.
-fn mark_apart(
-    out: &mut [u8],
-    lo: u64,
-    end: u64,
-    s: Series,
-    mark: u8,
-    stairs: &[u8; 128],
-    width: usize,
-)
-    requires { ⌜ Small s × (0 < s .blocks) × (s .length < s .spacing) × (s .length ≤ width) × (width ≤ 32) × (lo < s .start + s .blocks * s .spacing) × WindowFits lo end (now out) ⌝ }
-    requires { ⌜ (1 ≤ mark) × (mark ≤ 2) × Stairs 32 (now stairs) ⌝ }
+fn mark_apart(out: &mut [u8], lo: u64, end: u64, s: Series, mark: u8, width: u8)
+    requires { ⌜ Small s × (0 < s .blocks) × (s .length < s .spacing) × (s .length ≤ width) × (width ≤ 32) × (lo < s .start + (s .blocks - 1) * s .spacing + s .length) × WindowFits lo end (now out) × (mark ≤ 2) ⌝ }
     ensures { λ _. ⌜ MarkedWhere (end - lo) mark (λ i. holds s (lo + i)) (now (out .entry)) (now (out .exit)) ⌝ }
 {
     let run = times(s.blocks - 1, s.spacing) + s.length;
     let stop = lesser(s.start + run, end);
-    let left = mark_begun(out, lo, s, mark, stairs, width);
-    mark_ahead(out, lo, stop, left, mark, stairs, width);
+    let left = mark_begun(out, lo, s, mark, width);
+    mark_ahead(out, lo, stop, left, mark, width);
 }
 
 // The same in one superframe, by the narrower of two widths that the length allows. Where the series is over before lo nothing is divided.
-fn mark_superframe(out: &mut [u8], lo: u64, end: u64, s: Series, mark: u8, stairs: &[u8; 128])
-    requires { ⌜ Small s × (0 < s .blocks) × (s .length < s .spacing) × (s .length ≤ 32) × WindowFits lo end (now out) ⌝ }
-    requires { ⌜ (1 ≤ mark) × (mark ≤ 2) × Stairs 32 (now stairs) ⌝ }
+fn mark_superframe(out: &mut [u8], lo: u64, end: u64, s: Series, mark: u8)
+    requires { ⌜ Small s × (0 < s .blocks) × (s .length < s .spacing) × (s .length ≤ 32) × WindowFits lo end (now out) × (mark ≤ 2) ⌝ }
     ensures { λ _. ⌜ MarkedWhere (end - lo) mark (λ i. holds s (lo + i)) (now (out .entry)) (now (out .exit)) ⌝ }
 {
     let run = times(s.blocks - 1, s.spacing) + s.length;
@@ -318,10 +282,10 @@ fn mark_superframe(out: &mut [u8], lo: u64, end: u64, s: Series, mark: u8, stair
         return;
     }
     if s.length <= 16 {
-        mark_apart(out, lo, end, s, mark, stairs, 16);
+        mark_apart(out, lo, end, s, mark, 16);
         return;
     }
-    mark_apart(out, lo, end, s, mark, stairs, 32);
+    mark_apart(out, lo, end, s, mark, 32);
 }
 
 // Marks a series of such blocks in so many superframes of m1 slots, one after the other, up to the end.
@@ -333,10 +297,8 @@ fn mark_superframes(
     superframes: u64,
     s: Series,
     mark: u8,
-    stairs: &[u8; 128],
 )
-    requires { ⌜ WindowFits lo end (now out) × (m1 ≤ 4294967295) × (superframes ≤ 255) × (s .start ≤ 4294967295) × (s .spacing ≤ 4294967295) × (s .blocks ≤ 255) × (0 < s .blocks) × (s .length < s .spacing) × (s .length ≤ 32) ⌝ }
-    requires { ⌜ (1 ≤ mark) × (mark ≤ 2) × Stairs 32 (now stairs) ⌝ }
+    requires { ⌜ WindowFits lo end (now out) × (m1 ≤ 4294967295) × (superframes ≤ 255) × (s .start ≤ 4294967295) × (s .spacing ≤ 4294967295) × (s .blocks ≤ 255) × (0 < s .blocks) × (s .length < s .spacing) × (s .length ≤ 32) × (mark ≤ 2) ⌝ }
     ensures { λ _. ⌜ MarkedWhere (end - lo) mark (λ i. holdsIn m1 superframes s (lo + i)) (now (out .entry)) (now (out .exit)) ⌝ }
 {
     let mut start = s.start;
@@ -348,48 +310,57 @@ fn mark_superframes(
             blocks: s.blocks,
             length: s.length,
         };
-        mark_superframe(out, lo, end, one, mark, stairs);
+        mark_superframe(out, lo, end, one, mark);
         start += m1;
         k += 1;
     }
 }
 
 // Marks block after block.
-fn mark_each(out: &mut [u8], lo: u64, s: Series, mark: u8)
-    requires { ⌜ Small s ⌝ }
-    ensures { λ _. ⌜ MarkedWhere (len (now (out .entry))) mark (λ i. holds s (lo + i)) (now (out .entry)) (now (out .exit)) ⌝ }
+fn mark_each(out: &mut [u8], lo: u64, end: u64, s: Series, mark: u8)
+    requires { ⌜ WindowFits lo end (now out) × Small s ⌝ }
+    ensures { λ _. ⌜ MarkedWhere (end - lo) mark (λ i. holds s (lo + i)) (now (out .entry)) (now (out .exit)) ⌝ }
 {
     let mut start = s.start;
     let mut j = 0;
     while j < s.blocks {
-        mark_block(out, lo, start, s.length, mark);
+        mark_block(out, lo, end, start, s.length, mark);
         start += s.spacing;
         j += 1;
     }
 }
 
 // Marks the blocks of a series, whatever they are: those that touch or overlap are one run.
-fn mark_any(out: &mut [u8], lo: u64, s: Series, mark: u8)
-    requires { ⌜ Small s × (0 < s .blocks) ⌝ }
-    ensures { λ _. ⌜ MarkedWhere (len (now (out .entry))) mark (λ i. holds s (lo + i)) (now (out .entry)) (now (out .exit)) ⌝ }
+fn mark_any(out: &mut [u8], lo: u64, end: u64, s: Series, mark: u8)
+    requires { ⌜ WindowFits lo end (now out) × Small s × (0 < s .blocks) ⌝ }
+    ensures { λ _. ⌜ MarkedWhere (end - lo) mark (λ i. holds s (lo + i)) (now (out .entry)) (now (out .exit)) ⌝ }
 {
     if s.spacing <= s.length {
         mark_block(
             out,
             lo,
+            end,
             s.start,
             times(s.blocks - 1, s.spacing) + s.length,
             mark,
         );
         return;
     }
-    mark_each(out, lo, s, mark);
+    mark_each(out, lo, end, s, mark);
 }
 
 // Marks such a series in so many superframes of m1 slots.
-fn mark_any_superframes(out: &mut [u8], lo: u64, m1: u64, superframes: u64, s: Series, mark: u8)
-    requires { ⌜ (m1 ≤ 4294967295) × (superframes ≤ 255) × (s .start ≤ 4294967295) × (s .spacing ≤ 4294967295) × (s .blocks ≤ 255) × (0 < s .blocks) × (s .length ≤ 255) ⌝ }
-    ensures { λ _. ⌜ MarkedWhere (len (now (out .entry))) mark (λ i. holdsIn m1 superframes s (lo + i)) (now (out .entry)) (now (out .exit)) ⌝ }
+fn mark_any_superframes(
+    out: &mut [u8],
+    lo: u64,
+    end: u64,
+    m1: u64,
+    superframes: u64,
+    s: Series,
+    mark: u8,
+)
+    requires { ⌜ WindowFits lo end (now out) × (m1 ≤ 4294967295) × (superframes ≤ 255) × (s .start ≤ 4294967295) × (s .spacing ≤ 4294967295) × (s .blocks ≤ 255) × (0 < s .blocks) × (s .length ≤ 255) ⌝ }
+    ensures { λ _. ⌜ MarkedWhere (end - lo) mark (λ i. holdsIn m1 superframes s (lo + i)) (now (out .entry)) (now (out .exit)) ⌝ }
 {
     let mut start = s.start;
     let mut k = 0;
@@ -400,7 +371,7 @@ fn mark_any_superframes(out: &mut [u8], lo: u64, m1: u64, superframes: u64, s: S
             blocks: s.blocks,
             length: s.length,
         };
-        mark_any(out, lo, one, mark);
+        mark_any(out, lo, end, one, mark);
         start += m1;
         k += 1;
     }
@@ -408,18 +379,8 @@ fn mark_any_superframes(out: &mut [u8], lo: u64, m1: u64, superframes: u64, s: S
 
 // Marks a series of blocks in so many superframes of m1 slots. One that starts past the end or is over before lo is left by one test: apart, the
 // first of two would often be guessed wrong. Blocks that touch, or of more than 32 slots, which no sound table has, go a way of their own.
-fn mark_series(
-    out: &mut [u8],
-    lo: u64,
-    end: u64,
-    m1: u64,
-    superframes: u64,
-    s: Series,
-    mark: u8,
-    stairs: &[u8; 128],
-)
-    requires { ⌜ WindowFits lo end (now out) × (m1 ≤ 4294967295) × (0 < superframes) × (superframes ≤ 255) × (s .start ≤ 4294967295) × (s .spacing ≤ 4294967295) × (0 < s .blocks) × (s .blocks ≤ 255) × (s .length ≤ 255) ⌝ }
-    requires { ⌜ (1 ≤ mark) × (mark ≤ 2) × Stairs 32 (now stairs) ⌝ }
+fn mark_series(out: &mut [u8], lo: u64, end: u64, m1: u64, superframes: u64, s: Series, mark: u8)
+    requires { ⌜ WindowFits lo end (now out) × (m1 ≤ 4294967295) × (0 < superframes) × (superframes ≤ 255) × (s .start ≤ 4294967295) × (s .spacing ≤ 4294967295) × (0 < s .blocks) × (s .blocks ≤ 255) × (s .length ≤ 255) × (mark ≤ 2) ⌝ }
     ensures { λ _. ⌜ MarkedWhere (end - lo) mark (λ i. holdsIn m1 superframes s (lo + i)) (now (out .entry)) (now (out .exit)) ⌝ }
 {
     let last = s.start + times(superframes - 1, m1) + times(s.blocks - 1, s.spacing);
@@ -427,10 +388,10 @@ fn mark_series(
         return;
     }
     if (s.spacing <= s.length) | (32 < s.length) {
-        mark_any_superframes(out, lo, m1, superframes, s, mark);
+        mark_any_superframes(out, lo, end, m1, superframes, s, mark);
         return;
     }
-    mark_superframes(out, lo, end, m1, superframes, s, mark, stairs);
+    mark_superframes(out, lo, end, m1, superframes, s, mark);
 }
 
 // ---- the records
@@ -446,8 +407,8 @@ fn mark_of(far: u8) -> u8
 }
 
 // Marks the slots that a record reserves: none where it has no block.
-fn mark_record(out: &mut [u8], lo: u64, end: u64, m1: u32, r: Rec, stairs: &[u8; 128])
-    requires { ⌜ WindowFits lo end (now out) × Stairs 32 (now stairs) ⌝ }
+fn mark_record(out: &mut [u8], lo: u64, end: u64, m1: u32, r: Rec)
+    requires { ⌜ WindowFits lo end (now out) ⌝ }
     ensures { λ _. ⌜ MarkedWhere (end - lo) (markOf (r .far)) (λ i. reserves m1 r (lo + i)) (now (out .entry)) (now (out .exit)) ⌝ }
 {
     let rate = r.rate as u64;
@@ -462,35 +423,21 @@ fn mark_record(out: &mut [u8], lo: u64, end: u64, m1: u32, r: Rec, stairs: &[u8;
         blocks: rate,
         length: r.length as u64,
     };
-    mark_series(out, lo, end, m, superframes, s, mark_of(r.far), stairs);
-}
-
-// For each mark 32 of it and 32 zeros: from the place 32 - n on stand n marks and then zeros.
-fn make_stairs() -> [u8; 128]
-    ensures { λ r. ⌜ Stairs 32 r ⌝ }
-{
-    let mut steps = [0u8; 128];
-    let mut i = 0;
-    while i < 32 {
-        steps[i] = 1;
-        steps[64 + i] = 2;
-        i += 1;
-    }
-    steps
+    mark_series(out, lo, end, m, superframes, s, mark_of(r.far));
 }
 
 // ---- the slot states of a window
 
 // Marks the slots that a record reserves, unless it is far and no slot is free: it changes nothing then.
-fn mark_needed(out: &mut [u8], lo: u64, end: u64, m1: u32, r: Rec, full: bool, stairs: &[u8; 128])
-    requires { ⌜ WindowFits lo end (now out) × Stairs 32 (now stairs) × (full ≡ true → AtLeast (end - lo) 1 (now out)) ⌝ }
+fn mark_needed(out: &mut [u8], lo: u64, end: u64, m1: u32, r: Rec, full: bool)
+    requires { ⌜ WindowFits lo end (now out) × (full ≡ true → AtLeast (end - lo) 1 (now out)) ⌝ }
     ensures { λ _. ⌜ MarkedWhere (end - lo) (markOf (r .far)) (λ i. reserves m1 r (lo + i)) (now (out .entry)) (now (out .exit)) ⌝ }
 {
     let far = r.far == 1;
     if full & far {
         return;
     }
-    mark_record(out, lo, end, m1, r, stairs);
+    mark_record(out, lo, end, m1, r);
 }
 
 // Marks the slots that the records from i up to n reserve.
@@ -503,14 +450,13 @@ fn mark_some(
     i: usize,
     n: usize,
     full: bool,
-    stairs: &[u8; 128],
 )
-    requires { ⌜ WindowFits lo end (now out) × Stairs 32 (now stairs) × (n ≤ capacity (now memory)) × (full ≡ true → AtLeast (end - lo) 1 (now out)) ⌝ }
+    requires { ⌜ WindowFits lo end (now out) × (n ≤ capacity (now memory)) × (full ≡ true → AtLeast (end - lo) 1 (now out)) ⌝ }
     ensures { λ _. ⌜ Raised (end - lo) m1 (recordsFrom i n (now (memory .entry))) lo (now (out .entry)) (now (out .exit)) ⌝ }
 {
     let mut k = i;
     while k < n {
-        mark_needed(out, lo, end, m1, record::load(memory, k), full, stairs);
+        mark_needed(out, lo, end, m1, record::load(memory, k), full);
         k += 1;
     }
 }
@@ -535,7 +481,6 @@ fn mark_records(out: &mut [u8], n: usize, s: State, memory: &[u8], first: u32)
     requires { ⌜ n + 32 ≤ len (now out) ⌝ }
     ensures { λ _. ⌜ Raised n (s .m1) (records (channel s (now (memory .entry)))) first (now (out .entry)) (now (out .exit)) ⌝ }
 {
-    let stairs = make_stairs();
     let lo = first as u64;
     let end = lo + n as u64;
     let held = record::held_count(memory, s.count as usize);
@@ -543,14 +488,16 @@ fn mark_records(out: &mut [u8], n: usize, s: State, memory: &[u8], first: u32)
     let mut reserved = 0;
     let mut i = 0;
     while i < held {
-        taken = first_below(out, taken, n, 2);
-        if taken == n {
-            return;
-        }
-        reserved = first_below(out, larger(taken as u64, reserved as u64) as usize, n, 1);
         let next = lesser(i as u64 + 16, held as u64) as usize;
-        mark_some(out, lo, end, s.m1, memory, i, next, reserved == n, &stairs);
+        mark_some(out, lo, end, s.m1, memory, i, next, reserved == n);
         i = next;
+        if i < held {
+            taken = first_below(out, taken, n, 2);
+            if taken == n {
+                return;
+            }
+            reserved = first_below(out, larger(taken as u64, reserved as u64) as usize, n, 1);
+        }
     }
 }
 

@@ -33,7 +33,7 @@ returns c =
     let a = s .args in
     marked-agree (λ i. holds (a .s) (a .lo + i)) (x .mark-block .ensures) (λ i _.
     ap (λ (n : ℕ). inBlock (a .s .start) (n + a .s .length) (a .lo + i)) (t .times .ensures .0)
-    ∙ holds-all (a .s) (a .lo + i) (s .pre .1) (f .if1 .taken))
+    ∙ holds-all (a .s) (a .lo + i) (s .pre .2) (f .if1 .taken))
 
 mark-each-requires : tie.Need-mark-each-requires
 mark-each-requires c κs = search needs

@@ -7,17 +7,17 @@ use denote.Ref.{now}
 use lib.ListN.{length}
 use borrow.Author.Needs.{needs}
 use Rattle.slots.specs.Steps.{holdsIn, MarkedWhere}
-use Rattle.slots.proofs.Marks.{marked-none, marked-agree, marked-more, marked-within}
+use Rattle.slots.proofs.Marks.{marked-none, marked-agree, marked-more}
 use Rattle.slots.proofs.Blocks.{someBelow-none, holdsIn-next}
 use Rattle.slots.proofs.mark_any_superframes.Statement.{statement}
 use Rattle.slots.proofs.mark_any_superframes.Tie as tie
 
 abbrev Inv-loop : tie.InvT-loop
-Inv-loop out₀ lo m1 superframes s mark start₀ k₀ out start k =
-    (k ≤ superframes) × (start ≡ s .start + k * m1) × (length out ≡ length out₀) × MarkedWhere (length out₀) mark (λ i. holdsIn m1 k s (lo + i)) out₀ out
+Inv-loop out₀ lo end m1 superframes s mark start₀ k₀ out start k =
+    (k ≤ superframes) × (start ≡ s .start + k * m1) × (length out ≡ length out₀) × MarkedWhere (end - lo) mark (λ i. holdsIn m1 k s (lo + i)) out₀ out
 
 abbrev μ-loop : tie.MeasureT-loop
-μ-loop out₀ lo m1 superframes s mark start₀ k₀ out start k = superframes - k
+μ-loop out₀ lo end m1 superframes s mark start₀ k₀ out start k = superframes - k
 
 abbrev entry : tie.At-loop Inv-loop μ-loop → tie.Start Inv-loop μ-loop
 entry h = h .before .before
@@ -26,7 +26,7 @@ entry h = h .before .before
 past : (h : tie.At-loop Inv-loop μ-loop) → h .loop .k * entry h .args .m1 ≤ 255 * 4294967295
 past h =
     let pre = entry h .pre in
-    mul-le-mul {n₂ = 255} (omega (arith, h .loop .inv .0, pre .1)) (pre .0)
+    mul-le-mul {n₂ = 255} (omega (arith, h .loop .inv .0, pre .2)) (pre .1)
 
 loop-holds : tie.Need-loop-holds Inv-loop μ-loop
 loop-holds c =
@@ -37,14 +37,14 @@ mark-any-requires : tie.Need-mark-any-requires Inv-loop μ-loop
 mark-any-requires c κs =
     let h = c .before .before in
     let pre = entry h .pre in
-    let b = mul-le-mul (pre .4) (pre .3) in
-    (record { few = pre .4; close = pre .3; short = pre .6; early = omega (arith, h .loop .inv .1, past h, b, pre .2) }, pre .5)
+    let b = mul-le-mul (pre .5) (pre .4) in
+    (record { ahead = pre .0 .ahead; behind = omega (arith, pre .0 .behind, h .loop .inv .2) }, record { few = pre .5; close = pre .4; short = pre .7; early = omega (arith, h .loop .inv .1, past h, b, pre .3) }, pre .6)
 
 add-start : tie.Need-add-start Inv-loop μ-loop
 add-start c =
     let h = c .before .before .before .before .before in
     let pre = entry h .pre in
-    omega (arith, h .loop .inv .1, past h, pre .0, pre .2)
+    omega (arith, h .loop .inv .1, past h, pre .1, pre .3)
 
 add-k : tie.Need-add-k Inv-loop μ-loop
 add-k c = search needs
@@ -63,7 +63,7 @@ loop-again c =
       omega (arith, t .loop-test .taken),
       omega (arith, inv .1),
       x .kept .0 ∙ inv .2,
-      marked-agree (λ i. holdsIn (a .m1) (k + 1) (a .s) (a .lo + i)) (marked-more (inv .3) (marked-within (length (now (a .out))) (x .ensures) (omega (arith, inv .2)))) (λ i _.
+      marked-agree (λ i. holdsIn (a .m1) (k + 1) (a .s) (a .lo + i)) (marked-more (inv .3) (x .ensures)) (λ i _.
           holdsIn-next (a .m1) k (a .s) (a .lo + i) (h .loop .start) (inv .1)),
     )
 

@@ -37,8 +37,16 @@ lesser-requires c κs = search needs
 mark-begun-requires : tie.Need-mark-begun-requires
 mark-begun-requires c κs =
     let s = entry (last (c .before)) in
-    let pre = s .pre .0 in
-    ((pre .0, pre .1, pre .2, pre .3, pre .4, pre .5, omega (arith, pre .6 .ahead, pre .6 .behind)), s .pre .1)
+    let pre = s .pre in (
+      pre .0,
+      pre .1,
+      pre .2,
+      pre .3,
+      pre .4,
+      omega (arith, pre .2, pre .5, blocks-last (s .args .s) (pre .1)),
+      omega (arith, pre .6 .ahead, pre .6 .behind),
+      pre .7,
+    )
 
 mark-ahead-requires : tie.Need-mark-ahead-requires
 mark-ahead-requires c κs =
@@ -46,18 +54,17 @@ mark-ahead-requires c κs =
     let l = stop b in
     let t = last l in
     let s = entry t in
-    let pre = s .pre .0 in
+    let pre = s .pre in
     let left = b .mark-begun .ensures .0 in (
-      (
-        left .small,
-        left .ahead,
-        rw (left .long, left .spaced) (pre .2),
-        rw (left .long) (pre .3),
-        pre .4,
-        rw (left .spaced) (omega (arith, l .lesser .ensures, t .times .ensures .0, left .ends, pre .2, blocks-last (s .args .s) (pre .1))),
-        omega (arith, l .lesser .ensures, pre .6 .behind, b .mark-begun .kept .0),
-      ),
-      s .pre .1,
+      left .small,
+      left .ahead,
+      omega (arith, l .lesser .ensures, t .times .ensures .0, pre .5, pre .6 .ahead),
+      rw (left .long, left .spaced) (pre .2),
+      rw (left .long) (pre .3),
+      pre .4,
+      rw (left .spaced) (omega (arith, l .lesser .ensures, t .times .ensures .0, left .ends, pre .2, blocks-last (s .args .s) (pre .1))),
+      omega (arith, l .lesser .ensures, pre .6 .behind, b .mark-begun .kept .0),
+      pre .7,
     )
 
 same-length : tie.Need-same-length
@@ -71,13 +78,13 @@ returns c =
     let t = last l in
     let s = entry t in
     let a = s .args in
-    let fits = s .pre .0 .6 in
+    let fits = s .pre .6 in
     let r = b .mark-begun .result in
     let left = b .mark-begun .ensures .0 in
     let stops = l .lesser .ensures ∙ ap (λ (n : ℕ). min (a .s .start + (n + a .s .length)) (a .end)) (t .times .ensures .0) in
     marked-agree (λ i. holds (a .s) (a .lo + i))
     (marked-more (marked-within (a .end - a .lo) (b .mark-begun .ensures .1) (omega (arith, fits .behind))) (marked-within (a .end - a .lo) (x .mark-ahead .ensures) (omega (arith, fits .behind, b .mark-begun .kept .0)))) (λ i f.
-    ap (λ (h : Bool). firstHold (a .s) (a .s .blocks - r .blocks) (a .lo + i) || h) (left-before (a .lo) (a .end) (l .lesser .result) (a .s) r (a .lo + i) left (s .pre .0 .1) stops (omega arith))
+    ap (λ (h : Bool). firstHold (a .s) (a .s .blocks - r .blocks) (a .lo + i) || h) (left-before (a .lo) (a .end) (l .lesser .result) (a .s) r (a .lo + i) left (s .pre .1) stops (omega arith))
     ∙ left .parts (a .lo + i) (omega arith))
 
 pub mark-apart-spec : {M : Type 1} → statement M

@@ -19,7 +19,7 @@ entry x = skips x .before .before .before .before
 
 -- the series without the blocks left out is as small
 small : (x : tie.After-after) → Small (x .after .result)
-small x = rw (x .after .ensures) (small-after (entry x .args .s) (skips x .skipped .result) (entry x .pre .0 .0) (omega (arith, skips x .skipped .ensures .some)))
+small x = rw (x .after .ensures) (small-after (entry x .args .s) (skips x .skipped .result) (entry x .pre .0) (omega (arith, skips x .skipped .ensures .some)))
 
 -- and has a block
 some : (x : tie.After-after) → 1 ≤ x .after .result .blocks
@@ -30,7 +30,7 @@ returns c =
     let s = c .before .before .before in
     let a = s .args in
     let none : a .s .blocks - a .s .blocks ≡ 0 = omega arith in (
-      left-all (a .lo) (a .s) (s .pre .0 .0) (c .if1 .taken),
+      left-all (a .lo) (a .s) (s .pre .0) (c .if1 .taken),
       marked-none (λ i. firstHold (a .s) (a .s .blocks - a .s .blocks) (a .lo + i)) (now (a .out)) (λ i _. rw (none, someBelow-none)),
     )
 
@@ -47,7 +47,7 @@ mark-rest-requires c κs =
     let reached = skips x .skipped .ensures .begun (omega (arith, skips x .before .if1 .left)) in
     let start = ap (λ (r : Series). r .start) (x .after .ensures) in
     let length = ap (λ (r : Series). r .length) (x .after .ensures) in
-    ((omega (arith, start, reached), omega (arith, s .pre .0 .0 .early, s .pre .0 .5), s .pre .0 .6, omega (arith, length, s .pre .0 .3), s .pre .0 .4), s .pre .1)
+    (omega (arith, start, reached), omega (arith, s .pre .0 .early, s .pre .5), s .pre .6, omega (arith, length, s .pre .3), s .pre .4, s .pre .7)
 
 after-requires-2 : tie.Need-after-requires-2
 after-requires-2 c κs =
@@ -64,7 +64,7 @@ returns-2 c =
     let s = entry x in
     let a = s .args in
     let k = skips x .skipped in (
-      left-after (a .lo) (a .s) (x .after .result) (c .after2 .result) (k .result) (k .ensures) (x .after .ensures) (c .after2 .ensures) (s .pre .0 .0),
+      left-after (a .lo) (a .s) (x .after .result) (c .after2 .result) (k .result) (k .ensures) (x .after .ensures) (c .after2 .ensures) (s .pre .0),
       marked-agree (λ i. firstHold (a .s) (a .s .blocks - c .after2 .result .blocks) (a .lo + i)) (m .mark-rest .ensures) (λ i _.
           begun-holds (a .lo) (a .s) (x .after .result) (c .after2 .result) (k .result) (k .ensures) (x .after .ensures) (c .after2 .ensures) (a .lo + i) (omega arith)),
     )

@@ -7,17 +7,17 @@ use denote.Ref.{now}
 use lib.ListN.{length}
 use borrow.Author.Needs.{needs}
 use Rattle.slots.specs.Steps.{firstHold, MarkedWhere}
-use Rattle.slots.proofs.Marks.{marked-none, marked-agree, marked-more, marked-within}
+use Rattle.slots.proofs.Marks.{marked-none, marked-agree, marked-more}
 use Rattle.slots.proofs.Blocks.{someBelow-none, first-next}
 use Rattle.slots.proofs.mark_each.Statement.{statement}
 use Rattle.slots.proofs.mark_each.Tie as tie
 
 abbrev Inv-loop : tie.InvT-loop
-Inv-loop out₀ lo s mark start₀ j₀ out start j =
-    (j ≤ s .blocks) × (start ≡ s .start + j * s .spacing) × (length out ≡ length out₀) × MarkedWhere (length out₀) mark (λ i. firstHold s j (lo + i)) out₀ out
+Inv-loop out₀ lo end s mark start₀ j₀ out start j =
+    (j ≤ s .blocks) × (start ≡ s .start + j * s .spacing) × (length out ≡ length out₀) × MarkedWhere (end - lo) mark (λ i. firstHold s j (lo + i)) out₀ out
 
 abbrev μ-loop : tie.MeasureT-loop
-μ-loop out₀ lo s mark start₀ j₀ out start j = s .blocks - j
+μ-loop out₀ lo end s mark start₀ j₀ out start j = s .blocks - j
 
 loop-holds : tie.Need-loop-holds Inv-loop μ-loop
 loop-holds c =
@@ -29,14 +29,14 @@ mark-block-requires c κs =
     let h = c .before .before .before in
     let s = h .before .before in
     let m : h .loop .j * s .args .s .spacing ≤ s .args .s .blocks * s .args .s .spacing = mul-le-mul-right (s .args .s .spacing) (h .loop .inv .0) in
-    (omega (arith, h .loop .inv .1, s .pre .early), omega (arith, s .pre .short))
+    (record { ahead = s .pre .0 .ahead; behind = omega (arith, s .pre .0 .behind, h .loop .inv .2) }, omega (arith, h .loop .inv .1, s .pre .1 .early), omega (arith, s .pre .1 .short))
 
 add-start : tie.Need-add-start Inv-loop μ-loop
 add-start c =
     let h = c .before .before .before .before .before .before .before in
     let s = h .before .before in
     let m : h .loop .j * s .args .s .spacing ≤ s .args .s .blocks * s .args .s .spacing = mul-le-mul-right (s .args .s .spacing) (h .loop .inv .0) in
-    omega (arith, h .loop .inv .1, s .pre .early, s .pre .close)
+    omega (arith, h .loop .inv .1, s .pre .1 .early, s .pre .1 .close)
 
 add-j : tie.Need-add-j Inv-loop μ-loop
 add-j c = search needs
@@ -53,7 +53,7 @@ loop-again c =
       omega arith,
       omega (arith, inv .1),
       x .kept .0 ∙ inv .2,
-      marked-agree (λ i. firstHold (a .s) (h .loop .j + 1) (a .lo + i)) (marked-more (inv .3) (marked-within (length (now (a .out))) (x .ensures) (omega (arith, inv .2)))) (λ i _. rw (inv .1) (first-next (a .s) (h .loop .j) (a .lo + i))),
+      marked-agree (λ i. firstHold (a .s) (h .loop .j + 1) (a .lo + i)) (marked-more (inv .3) (x .ensures)) (λ i _. rw (inv .1) (first-next (a .s) (h .loop .j) (a .lo + i))),
     )
 
 same-length : tie.Need-same-length Inv-loop μ-loop

@@ -1,4 +1,4 @@
--- `slots::mark_record` meets its contract: no slot where there is no block or no superframe, and a mark that is 1 or 2. Assumes nothing.
+-- `slots::mark_record` meets its contract: no slot where there is no block or no superframe, and a mark that is 2 at most. Assumes nothing.
 use Prim.Native.Nat.{_+_, _/_, _≤_}
 use native.Mathlib.Nat.{div-le-self}
 use native.Mathlib.Omega.{arith}
@@ -8,7 +8,7 @@ use borrow.Author.Needs.{needs}
 use borrow.Author.Tests.{ltb-false}
 use Rattle.octets.proofs.Refusals.{or-eq-false}
 use Rattle.series.specs.Series.{reserves}
-use Rattle.slots.proofs.Marks.{marked-none, mark-some}
+use Rattle.slots.proofs.Marks.{marked-none, mark-≤}
 use Rattle.slots.proofs.Blocks.{holdsIn-none}
 use Rattle.slots.proofs.mark_record.Statement.{statement}
 use Rattle.slots.proofs.mark_record.Tie as tie
@@ -36,14 +36,14 @@ returns c =
     marked-none (λ i. reserves (a .m1) (a .r) (a .lo + i)) (now (a .out)) (λ i _.
     holdsIn-none (record { start = a .r .first; spacing = a .m1 / a .r .rate; blocks = a .r .rate; length = a .r .length }) (a .lo + i) (a .m1) (a .r .superframes) (c .if1 .taken))
 
-cast-t14 : tie.Need-cast-t14
-cast-t14 c = search needs
+cast-t13 : tie.Need-cast-t13
+cast-t13 c = search needs
 
-div-t15 : tie.Need-div-t15
-div-t15 c = omega (arith, some (c .before) .0)
+div-t14 : tie.Need-div-t14
+div-t14 c = omega (arith, some (c .before) .0)
 
-cast-t16 : tie.Need-cast-t16
-cast-t16 c = search needs
+cast-t15 : tie.Need-cast-t15
+cast-t15 c = search needs
 
 mark-of-requires : tie.Need-mark-of-requires
 mark-of-requires c κs = search needs
@@ -52,20 +52,17 @@ mark-series-requires : tie.Need-mark-series-requires
 mark-series-requires c κs =
     let f = c .before .before .before .before in
     let s = entry f in
-    let r = s .args .r in
-    let b = mark-some (r .far) in (
-      (
-        s .pre .0,
-        omega (arith, s .fits),
-        some f .1,
-        omega (arith, s .fits),
-        omega (arith, s .fits),
-        omega (arith, s .fits, div-le-self (s .args .m1) (r .rate)),
-        some f .0,
-        omega (arith, s .fits),
-        omega (arith, s .fits),
-      ),
-      (rw (c .mark-of .ensures) (b .0), rw (c .mark-of .ensures) (b .1), s .pre .1),
+    let r = s .args .r in (
+      s .pre,
+      omega (arith, s .fits),
+      some f .1,
+      omega (arith, s .fits),
+      omega (arith, s .fits),
+      omega (arith, s .fits, div-le-self (s .args .m1) (r .rate)),
+      some f .0,
+      omega (arith, s .fits),
+      omega (arith, s .fits),
+      rw (c .mark-of .ensures) (mark-≤ (r .far)),
     )
 
 same-length : tie.Need-same-length
@@ -84,9 +81,9 @@ mark-record-spec =
     cast-rate
     cast-superframes
     returns
-    cast-t14
-    div-t15
-    cast-t16
+    cast-t13
+    div-t14
+    cast-t15
     mark-of-requires
     mark-series-requires
     same-length

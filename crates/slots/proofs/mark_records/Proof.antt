@@ -8,33 +8,30 @@ use borrow.Author.Tests.{eqb-true}
 use Rattle.sound.specs.Sound.{records}
 use Rattle.table.specs.Memory.{channel}
 use Rattle.slots.specs.Steps.{recordsFrom, Raised}
-use Rattle.slots.proofs.SoFar.{SoFar, so-far-none, so-far-next, so-far-all, so-far-taken, reserved-too}
+use Rattle.slots.proofs.SoFar.{SoFar, so-far-none, so-far-next, so-far-seen, so-far-all, so-far-taken, reserved-too}
 use Rattle.slots.proofs.mark_records.Statement.{statement}
 use Rattle.slots.proofs.mark_records.Tie as tie
 
 abbrev Inv-loop : tie.InvT-loop
-Inv-loop out₀ n s memory first stairs lo end held taken₀ reserved₀ i₀ out taken reserved i =
+Inv-loop out₀ n s memory first lo end held taken₀ reserved₀ i₀ out taken reserved i =
     SoFar n (s .m1) first held memory out₀ out i taken reserved
 
 abbrev μ-loop : tie.MeasureT-loop
-μ-loop out₀ n s memory first stairs lo end held taken₀ reserved₀ i₀ out taken reserved i = held - i
+μ-loop out₀ n s memory first lo end held taken₀ reserved₀ i₀ out taken reserved i = held - i
 
 -- ---- the places of what is known
 
 abbrev at-held : tie.At-loop Inv-loop μ-loop → tie.After-held-count Inv-loop μ-loop
 at-held h = h .before
 
-abbrev at-stairs : tie.At-loop Inv-loop μ-loop → tie.After-make-stairs Inv-loop μ-loop
-at-stairs h = at-held h .before .before
-
 abbrev entry : tie.At-loop Inv-loop μ-loop → tie.Start Inv-loop μ-loop
-entry h = at-stairs h .before .before .before
+entry h = at-held h .before .before .before .before
 
-abbrev at-test : tie.After-lesser Inv-loop μ-loop → tie.In-loop Inv-loop μ-loop
-at-test l = l .before .before .before .before .before .before .before
+abbrev at-lesser : tie.After-mark-some Inv-loop μ-loop → tie.After-lesser Inv-loop μ-loop
+at-lesser x = x .before .before
 
-abbrev at-loop : tie.After-lesser Inv-loop μ-loop → tie.At-loop Inv-loop μ-loop
-at-loop l = at-test l .before
+abbrev at-loop : tie.After-mark-some Inv-loop μ-loop → tie.At-loop Inv-loop μ-loop
+at-loop x = at-lesser x .before .before
 
 -- the first records of the memory are those that the table holds
 held-all : (h : tie.At-loop Inv-loop μ-loop) {ys : List ℕ}
@@ -44,10 +41,18 @@ held-all : (h : tie.At-loop Inv-loop μ-loop) {ys : List ℕ}
 unfolding records
 held-all h r = rw (at-held h .held-count .ensures .2) at r
 
--- ---- the needs
+-- with the next records marked
+marked : (x : tie.After-mark-some Inv-loop μ-loop)
+    → let h = at-loop x in
+    let a = entry h .args in
+    SoFar (a .n) (a .s .m1) (a .first) (at-held h .held-count .result) (now (a .memory)) (now (a .out)) (x .mark-some .last .0) (at-lesser x .lesser .result) (h .loop .taken) (h .loop .reserved)
+marked x =
+    let l = at-lesser x in
+    let h = at-loop x in
+    so-far-next (h .loop .inv) (l .lesser .result) (at-held h .held-count .ensures .1) (omega (arith, l .lesser .ensures, l .before .loop-test .taken))
+    (omega (arith, l .lesser .ensures)) (x .mark-some .kept .0) (record { at = λ j b. x .mark-some .ensures .at j (omega arith) })
 
-make-stairs-requires : tie.Need-make-stairs-requires Inv-loop μ-loop
-make-stairs-requires c κs = search needs
+-- ---- the needs
 
 add-end : tie.Need-add-end Inv-loop μ-loop
 add-end c = search needs
@@ -61,34 +66,6 @@ held-count-requires c κs = search needs
 loop-holds : tie.Need-loop-holds Inv-loop μ-loop
 loop-holds c = so-far-none
 
-first-below-requires : tie.Need-first-below-requires Inv-loop μ-loop
-first-below-requires c κs =
-    let h = c .before .before in
-    let inv = h .loop .inv in
-    (inv .taken-≤, omega (arith, entry h .pre, inv .same), record { at = λ j l. omega (arith, inv .taken-all .at j l) })
-
-same-length : tie.Need-same-length Inv-loop μ-loop
-same-length c = search needs
-
-returns : tie.Need-returns Inv-loop μ-loop
-returns c =
-    let h = c .before .before .before .before in
-    let f = c .before .first-below in
-    held-all h (so-far-taken (h .loop .inv) (record { at = λ j b. f .ensures .1 .at j (omega (arith, c .if1 .taken)) }))
-
-larger-requires : tie.Need-larger-requires Inv-loop μ-loop
-larger-requires c κs = search needs
-
-first-below-requires-2 : tie.Need-first-below-requires-2 Inv-loop μ-loop
-first-below-requires-2 c κs =
-    let t = c .before .before .before .first-below in
-    let h = c .before .before .before .before .before .before in
-    let inv = h .loop .inv in (
-      omega (arith, c .larger .ensures, t .ensures .0, inv .reserved-≤),
-      omega (arith, entry h .pre, inv .same),
-      reserved-too (h .loop .reserved) (t .ensures .1) (inv .reserved-all) (c .larger .ensures),
-    )
-
 add-lesser : tie.Need-add-lesser Inv-loop μ-loop
 add-lesser c = search needs
 
@@ -97,14 +74,42 @@ lesser-requires c κs = search needs
 
 mark-some-requires : tie.Need-mark-some-requires Inv-loop μ-loop
 mark-some-requires c κs =
-    let l = c .before .before in
-    let r = l .before .first-below2 in
-    let h = at-loop l in
-    let e = entry h in (
-      record { ahead = omega arith; behind = omega (arith, e .pre, h .loop .inv .same) },
-      at-stairs h .make-stairs .ensures,
+    let l = c .before in
+    let h = l .before .before in
+    let e = entry h in
+    let inv = h .loop .inv in (
+      record { ahead = omega arith; behind = omega (arith, e .pre, inv .same) },
       omega (arith, l .lesser .ensures, at-held h .held-count .ensures .1),
-      λ f. record { at = λ j b. r .ensures .1 .at j (omega (arith, eqb-true (r .result) (e .args .n) f)) },
+      λ f. record { at = λ j b. inv .reserved-all .at j (omega (arith, eqb-true (h .loop .reserved) (e .args .n) f)) },
+    )
+
+first-below-requires : tie.Need-first-below-requires Inv-loop μ-loop
+first-below-requires c κs =
+    let x = c .before .before .before .before in
+    let m = marked x in
+    (m .taken-≤, omega (arith, entry (at-loop x) .pre, m .same), record { at = λ j l. omega (arith, m .taken-all .at j l) })
+
+same-length : tie.Need-same-length Inv-loop μ-loop
+same-length c = search needs
+
+returns : tie.Need-returns Inv-loop μ-loop
+returns c =
+    let f = c .before .first-below in
+    let x = c .before .before .before .before .before .before in
+    held-all (at-loop x) (so-far-taken (marked x) (record { at = λ j b. f .ensures .1 .at j (omega (arith, c .if2 .taken)) }))
+
+larger-requires : tie.Need-larger-requires Inv-loop μ-loop
+larger-requires c κs = search needs
+
+first-below-requires-2 : tie.Need-first-below-requires-2 Inv-loop μ-loop
+first-below-requires-2 c κs =
+    let t = c .before .before .before .first-below in
+    let x = c .before .before .before .before .before .before .before .before in
+    let h = at-loop x in
+    let m = marked x in (
+      omega (arith, c .larger .ensures, t .ensures .0, m .reserved-≤),
+      omega (arith, entry h .pre, m .same),
+      reserved-too (h .loop .reserved) (t .ensures .1) (m .reserved-all) (c .larger .ensures),
     )
 
 loop-less : tie.Need-loop-less Inv-loop μ-loop
@@ -112,15 +117,15 @@ loop-less c = search needs
 
 loop-again : tie.Need-loop-again Inv-loop μ-loop
 loop-again c =
-    let x = c .before .before in
-    let l = x .before .before .before in
-    let h = at-loop l in
-    let r = l .before .first-below2 in
-    let t = l .before .before .before .before .before .first-below in
-    so-far-next (h .loop .inv) (l .lesser .result) (at-held h .held-count .ensures .1) (omega (arith, l .lesser .ensures, at-test l .loop-test .taken))
-    (omega (arith, l .lesser .ensures)) (x .mark-some .kept .0)
-    (t .ensures .0) (t .ensures .1) (r .ensures .0) (r .ensures .1)
-    (record { at = λ j b. x .mark-some .ensures .at j (omega arith) })
+    let t = c .before .before .before .before .first-below in
+    let x = c .before .before .before .before .before .before .before .before .before in
+    so-far-seen (marked x) (t .ensures .0) (t .ensures .1) (c .first-below2 .ensures .0) (c .first-below2 .ensures .1)
+
+loop-less-2 : tie.Need-loop-less-2 Inv-loop μ-loop
+loop-less-2 c = search needs
+
+loop-again-2 : tie.Need-loop-again-2 Inv-loop μ-loop
+loop-again-2 c = marked (c .before .before .before)
 
 same-length-2 : tie.Need-same-length-2 Inv-loop μ-loop
 same-length-2 c = search needs
@@ -134,20 +139,21 @@ mark-records-spec =
     (tie.spec
     Inv-loop
     μ-loop
-    make-stairs-requires
     add-end
     cast-held-count
     held-count-requires
     loop-holds
+    add-lesser
+    lesser-requires
+    mark-some-requires
     first-below-requires
     same-length
     returns
     larger-requires
     first-below-requires-2
-    add-lesser
-    lesser-requires
-    mark-some-requires
     loop-less
     loop-again
+    loop-less-2
+    loop-again-2
     same-length-2
     returns-2)

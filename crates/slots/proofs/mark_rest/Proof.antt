@@ -13,6 +13,9 @@ add-less c = search needs
 less-requires : tie.Need-less-requires
 less-requires c κs = search needs
 
+cast-mark-wide : tie.Need-cast-mark-wide
+cast-mark-wide c = search needs
+
 mark-wide-requires : tie.Need-mark-wide-requires
 mark-wide-requires c κs = search needs
 
@@ -25,7 +28,7 @@ returns c =
     let less = x .before in
     let s = less .before .before .before in
     let a = s .args in
-    marked-agree (λ i. inBlock (a .start) (a .length) (a .lo + i)) (x .mark-wide .ensures) (λ i _. rw (less .less .ensures) (block-left (a .lo) (a .start) (a .length) i (s .pre .0 .0)))
+    marked-agree (λ i. inBlock (a .start) (a .length) (a .lo + i)) (x .mark-wide .ensures) (λ i _. rw (less .less .ensures) (block-left (a .lo) (a .start) (a .length) i (s .pre .0)))
 
 pub mark-rest-spec : {M : Type 1} → statement M
-mark-rest-spec = tie.close (tie.spec add-less less-requires mark-wide-requires same-length returns)
+mark-rest-spec = tie.close (tie.spec add-less less-requires cast-mark-wide mark-wide-requires same-length returns)

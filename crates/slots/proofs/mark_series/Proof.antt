@@ -1,5 +1,5 @@
 -- `slots::mark_series` meets its contract: nothing of a series that starts past the end or is over before lo; blocks apart, or any. Assumes nothing.
-use Prim.Native.Nat.{_+_, _-_}
+use Prim.Native.Nat.{_+_}
 use native.Mathlib.Omega.{arith}
 use lib.Dec.{leb, ltb}
 use denote.Ref.{now}
@@ -7,7 +7,7 @@ use borrow.Author.Needs.{needs}
 use borrow.Author.Tests.{leb-false, ltb-false}
 use Rattle.octets.proofs.Refusals.{or-eq-false}
 use Rattle.slots.specs.Steps.{holdsIn}
-use Rattle.slots.proofs.Marks.{marked-none, marked-within}
+use Rattle.slots.proofs.Marks.{marked-none}
 use Rattle.slots.proofs.Blocks.{holdsIn-outside}
 use Rattle.slots.proofs.mark_series.Statement.{statement}
 use Rattle.slots.proofs.mark_series.Tie as tie
@@ -52,27 +52,22 @@ returns c =
     omega (arith, t₁ .times .ensures .0, t₂ .times2 .ensures .0, c .if1 .taken, c .before .before .lesser .ensures, c .before .larger .ensures)))
 
 mark-any-superframes-requires : tie.Need-mark-any-superframes-requires
-mark-any-superframes-requires c κs =
-    let pre = entry (c .before .before .before .before) .pre .0 in
-    (pre .1, pre .3, pre .4, pre .5, pre .7, pre .6, pre .8)
+mark-any-superframes-requires c κs = search needs
 
 same-length : tie.Need-same-length
 same-length c = search needs
 
 returns-2 : tie.Need-returns-2
-returns-2 c =
-    let x = c .before .before in
-    let s = entry (x .before .before .before .before .before) in
-    marked-within (s .args .end - s .args .lo) (x .mark-any-superframes .ensures) (omega (arith, s .pre .0 .0 .behind))
+returns-2 c = c .before .before .mark-any-superframes .ensures
 
 mark-superframes-requires : tie.Need-mark-superframes-requires
 mark-superframes-requires c κs =
     let f = c .before in
     let s = entry (f .before .before .before) in
-    let pre = s .pre .0 in
+    let pre = s .pre in
     let r = s .args .s in
     let apart = or-eq-false (leb (r .spacing) (r .length)) (ltb 32 (r .length)) (f .if2 .left) in
-    ((pre .0, pre .1, pre .3, pre .4, pre .5, pre .7, pre .6, omega (arith, leb-false (r .spacing) (r .length) (apart .0)), omega (arith, ltb-false 32 (r .length) (apart .1))), s .pre .1)
+    (pre .0, pre .1, pre .3, pre .4, pre .5, pre .7, pre .6, omega (arith, leb-false (r .spacing) (r .length) (apart .0)), omega (arith, ltb-false 32 (r .length) (apart .1)), pre .9)
 
 same-length-2 : tie.Need-same-length-2
 same-length-2 c = search needs

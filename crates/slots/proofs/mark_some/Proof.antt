@@ -16,12 +16,12 @@ use Rattle.slots.proofs.mark_some.Statement.{statement}
 use Rattle.slots.proofs.mark_some.Tie as tie
 
 abbrev Inv-loop : tie.InvT-loop
-Inv-loop out₀ lo end m1 memory i n full stairs k₀ out k =
+Inv-loop out₀ lo end m1 memory i n full k₀ out k =
     (length out ≡ length out₀) × (full ≡ true → AtLeast (end - lo) 1 out)
     × ((j : ℕ) → j < end - lo → max (getD out₀ j 0) (slotStateNumber m1 (recordsFrom i n memory) (lo + j)) ≡ max (getD out j 0) (slotStateNumber m1 (recordsFrom k n memory) (lo + j)))
 
 abbrev μ-loop : tie.MeasureT-loop
-μ-loop out₀ lo end m1 memory i n full stairs k₀ out k = n - k
+μ-loop out₀ lo end m1 memory i n full k₀ out k = n - k
 
 loop-holds : tie.Need-loop-holds Inv-loop μ-loop
 loop-holds c = search needs
@@ -48,7 +48,7 @@ loop-again c =
     let k = h .loop .k in
     let inv = h .loop .inv in
     let marked = x .mark-needed .ensures in
-    let next = toCome-next k (a .n) (now (a .memory)) (load .before .before .loop-test .taken) (s .pre .2) in (
+    let next = toCome-next k (a .n) (now (a .memory)) (load .before .before .loop-test .taken) (s .pre .1) in (
       x .mark-needed .kept .0 ∙ inv .0,
       (λ e. record { at = λ j l. rw (marked .at j l) (omega (arith, inv .1 e .at j l, marked-≥ (reserves (a .m1) (load .load .result) (a .lo + j)) (getD (h .loop .out) j 0) (markOf (load .load .result .far)))) }),
       (λ j l.

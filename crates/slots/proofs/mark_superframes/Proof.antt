@@ -17,11 +17,11 @@ use Rattle.slots.proofs.mark_superframes.Statement.{statement}
 use Rattle.slots.proofs.mark_superframes.Tie as tie
 
 abbrev Inv-loop : tie.InvT-loop
-Inv-loop out₀ lo end m1 superframes s mark stairs start₀ k₀ out start k =
+Inv-loop out₀ lo end m1 superframes s mark start₀ k₀ out start k =
     (k ≤ superframes) × (start ≡ s .start + k * m1) × (length out ≡ length out₀) × MarkedWhere (end - lo) mark (λ i. holdsIn m1 k s (lo + i)) out₀ out
 
 abbrev μ-loop : tie.MeasureT-loop
-μ-loop out₀ lo end m1 superframes s mark stairs start₀ k₀ out start k = superframes - k
+μ-loop out₀ lo end m1 superframes s mark start₀ k₀ out start k = superframes - k
 
 abbrev entry : tie.At-loop Inv-loop μ-loop → tie.Start Inv-loop μ-loop
 entry h = h .before .before
@@ -29,7 +29,7 @@ entry h = h .before .before
 -- the superframes so far
 past : (h : tie.At-loop Inv-loop μ-loop) → h .loop .k * entry h .args .m1 ≤ 255 * 4294967295
 past h =
-    let pre = entry h .pre .0 in
+    let pre = entry h .pre in
     mul-le-mul {n₂ = 255} (omega (arith, h .loop .inv .0, pre .2)) (pre .1)
 
 -- in a turn there is a superframe left
@@ -47,26 +47,24 @@ loop-holds c =
 mark-superframe-requires : tie.Need-mark-superframe-requires Inv-loop μ-loop
 mark-superframe-requires c κs =
     let h = c .before .before in
-    let pre = entry h .pre .0 in
+    let pre = entry h .pre in
     let b = mul-le-mul (pre .5) (pre .4) in (
-      (
-        record { few = pre .5; close = pre .4; short = omega (arith, pre .8); early = omega (arith, h .loop .inv .1, past h, b, pre .3) },
-        pre .6,
-        pre .7,
-        pre .8,
-        record { ahead = pre .0 .ahead; behind = omega (arith, pre .0 .behind, h .loop .inv .2) },
-      ),
-      entry h .pre .1,
+      record { few = pre .5; close = pre .4; short = omega (arith, pre .8); early = omega (arith, h .loop .inv .1, past h, b, pre .3) },
+      pre .6,
+      pre .7,
+      pre .8,
+      record { ahead = pre .0 .ahead; behind = omega (arith, pre .0 .behind, h .loop .inv .2) },
+      pre .9,
     )
 
 add-start : tie.Need-add-start Inv-loop μ-loop
 add-start c =
     let h = c .before .before .before .before .before in
-    let pre = entry h .pre .0 in
+    let pre = entry h .pre in
     omega (arith, h .loop .inv .1, past h, pre .1, pre .3)
 
 add-k : tie.Need-add-k Inv-loop μ-loop
-add-k c = let t = c .before .before .before .before in omega (arith, turn t, entry (t .before) .pre .0 .2)
+add-k c = search needs
 
 loop-less : tie.Need-loop-less Inv-loop μ-loop
 loop-less c = omega (arith, turn (c .before .before .before .before))

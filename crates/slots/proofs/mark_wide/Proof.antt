@@ -8,48 +8,47 @@ use borrow.Author.Needs.{needs}
 use Rattle.series.specs.Series.{inBlock}
 use Rattle.slots.specs.Steps.{MarkedWhere}
 use Rattle.slots.proofs.Tests.{firstPlaces, first-none, first-at, first-in, first-other, first-all}
-use Rattle.slots.proofs.Marks.{marked-none, marked-agree, marked-set}
-use Rattle.slots.proofs.Stairs.{stairs-at}
+use Rattle.slots.proofs.Marks.{marked-none, marked-agree, marked-set, mark-by-place}
 use Rattle.slots.proofs.mark_wide.Statement.{statement}
 use Rattle.slots.proofs.mark_wide.Tie as tie
 
 abbrev Inv-loop : tie.InvT-loop
-Inv-loop out₀ at length′ mark stairs width step d₀ out d = (d ≤ width) × (length out ≡ length out₀) × MarkedWhere (length out₀) mark (firstPlaces at length′ d) out₀ out
+Inv-loop out₀ at length′ mark width edge d₀ out d = (d ≤ width) × (length out ≡ length out₀) × MarkedWhere (length out₀) mark (firstPlaces at length′ d) out₀ out
 
 abbrev μ-loop : tie.MeasureT-loop
-μ-loop out₀ at length′ mark stairs width step d₀ out d = width - d
+μ-loop out₀ at length′ mark width edge d₀ out d = width - d
 
-mul-step : tie.Need-mul-step Inv-loop μ-loop
-mul-step c = search needs
-
-sub-step : tie.Need-sub-step Inv-loop μ-loop
-sub-step c = search needs
-
-sub-step-2 : tie.Need-sub-step-2 Inv-loop μ-loop
-sub-step-2 c = search needs
+mul-edge : tie.Need-mul-edge Inv-loop μ-loop
+mul-edge c = search needs
 
 loop-holds : tie.Need-loop-holds Inv-loop μ-loop
 loop-holds c =
     let a = c .before .args in
     (omega arith, refl, marked-none (firstPlaces (a .at) (a .length) 0) (now (a .out)) (λ k _. first-none (a .at) (a .length) k))
 
-add-greater : tie.Need-add-greater Inv-loop μ-loop
-add-greater c = search needs
+cast-place : tie.Need-cast-place Inv-loop μ-loop
+cast-place c = search needs
+
+add-place : tie.Need-add-place Inv-loop μ-loop
+add-place c = search needs
 
 slice-read-greater : tie.Need-slice-read-greater Inv-loop μ-loop
 slice-read-greater c = search needs
 
-add-greater-2 : tie.Need-add-greater-2 Inv-loop μ-loop
-add-greater-2 c = search needs
+mul-minus : tie.Need-mul-minus Inv-loop μ-loop
+mul-minus c = search needs
 
-element-copy-out-greater : tie.Need-element-copy-out-greater Inv-loop μ-loop
-element-copy-out-greater c = search needs
+add-minus : tie.Need-add-minus Inv-loop μ-loop
+add-minus c = search needs
+
+minus-requires : tie.Need-minus-requires Inv-loop μ-loop
+minus-requires c κs = search needs
+
+smaller-requires : tie.Need-smaller-requires Inv-loop μ-loop
+smaller-requires c κs = search needs
 
 greater-requires : tie.Need-greater-requires Inv-loop μ-loop
 greater-requires c κs = search needs
-
-add-out : tie.Need-add-out Inv-loop μ-loop
-add-out c = search needs
 
 slice-write-out : tie.Need-slice-write-out Inv-loop μ-loop
 slice-write-out c = search needs
@@ -62,16 +61,16 @@ loop-less c = search needs
 
 loop-again : tie.Need-loop-again Inv-loop μ-loop
 loop-again c =
-    let h = c .before .before .before .before in
+    let h = c .before .before .before .before .before in
     let s = h .before .before in
     let a = s .args in
     let d = h .loop .d in
-    let inv = h .loop .inv in
-    let stair = stairs-at (now (a .stairs)) (s .pre .5) (a .mark) (a .length) d (s .pre .3) (s .pre .4) (omega arith) (omega arith) in (
+    let inv = h .loop .inv in (
       omega arith,
       length-set (h .loop .out) (a .at + d) (c .greater .result) ∙ inv .1,
       rw (c .greater .ensures) (marked-set (firstPlaces (a .at) (a .length) (d + 1)) (a .at + d) _ (inv .2) (inv .1) (omega arith)
-          (first-at (a .at) (a .length) d) (first-other (a .at) (a .length) d) (rw (first-in (a .at) (a .length) d) stair)),
+          (first-at (a .at) (a .length) d) (first-other (a .at) (a .length) d)
+          (rw (first-in (a .at) (a .length) d, c .before .smaller .ensures, c .before .before .minus .ensures) (mark-by-place (a .mark) (a .length) d (s .pre .3)))),
     )
 
 same-length : tie.Need-same-length Inv-loop μ-loop
@@ -90,16 +89,16 @@ mark-wide-spec =
     (tie.spec
     Inv-loop
     μ-loop
-    mul-step
-    sub-step
-    sub-step-2
+    mul-edge
     loop-holds
-    add-greater
+    cast-place
+    add-place
     slice-read-greater
-    add-greater-2
-    element-copy-out-greater
+    mul-minus
+    add-minus
+    minus-requires
+    smaller-requires
     greater-requires
-    add-out
     slice-write-out
     add-d
     loop-less
