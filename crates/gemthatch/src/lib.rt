@@ -109,12 +109,13 @@ fn search_places(s: State, memory: &[u8], q: Query, starts: &mut [u32], places: 
     ensures starts { λ r. ⌜ take (r .number) (now (starts .exit)) ≡ found (channel s (now (memory .entry))) q places ⌝ }
 {
     let f = search::search(s, memory, q, starts);
-    let asked = (f.refusal == 0) | (f.refusal == 21);
-    if asked & (places < q.wanted as usize) {
-        return Found {
-            refusal: 1,
-            number: 0,
-        };
+    if places < q.wanted as usize {
+        if (f.refusal == 0) | (f.refusal == 21) {
+            return Found {
+                refusal: 1,
+                number: 0,
+            };
+        }
     }
     f
 }

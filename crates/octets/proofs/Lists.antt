@@ -225,11 +225,7 @@ from-append s (suc a) b = rw (suc-add, from-append (s + 1) a b, add-assoc s 1 a,
 from-next : (s n : ℕ) → from s (n + 1) ≡ from s n ++ ((s + n) ∷ [])
 from-next s n = from-append s n 1
 
--- what a test keeps of one number more
-pub keep-from-next : (p : ℕ → Bool) (s n : ℕ) → keep p (from s (n + 1)) ≡ keep p (from s n) ++ cond (p (s + n)) ((s + n) ∷ []) []
-keep-from-next p s n = rw (from-next, keep-append)
-
--- and whether all pass it
+-- whether one number more passes a test with the others
 pub every-from-next : (p : ℕ → Bool) (s n : ℕ) → every p (from s (n + 1)) ≡ (every p (from s n) && p (s + n))
 every-from-next p s n = rw (from-next, every-append, and-true)
 

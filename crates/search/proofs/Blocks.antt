@@ -1,19 +1,25 @@
 -- What the octets of a block, all below a number or not, say of its level. Assumes nothing.
 use Prim.Native.Nat.{ℕ, _+_, _-_, _<_, _≤_}
 use native.Mathlib.Numerals.{add-one}
-use native.Mathlib.Omega.{arith}
 use mathlib.Core.Path.{_≡_, refl, sym, ap, _∙_}
-use mathlib.Core.Bool.{Bool, true, false, not, _&&_, false≢true, and-true, and-false, and-eq-true-iff}
+use mathlib.Core.Bool.{Bool, true, false, not, _&&_, false≢true, and-false, and-eq-true-iff}
 use mathlib.Core.List.{List}
 use lib.ListN.{getD}
-use borrow.Author.Tests.{ltb-true, lt-ltb}
 use Rattle.octets.specs.Lists.{every, has, from}
 use Rattle.octets.proofs.Lists.{every-not, every-sub, every-has, every-from-next, every-from-agree, has-from}
 use Rattle.slots.specs.declared.Slot.{Slot}
 use Rattle.search.specs.declared.Query.{Query}
 use Rattle.search.specs.Search.{isTaken, level0, level1}
-use Rattle.search.specs.Steps.{statesIn, slotBelow, blockBelow}
-use Rattle.search.proofs.Octets.{octet-free, octet-untaken}
+use Rattle.search.specs.Steps.{statesIn}
+use Rattle.search.proofs.Octets.{slotBelow, octet-greater, octet-free, octet-untaken}
+
+-- the octets of the block at s are all below x: with 1 all its slots are free, with 2 none is taken
+unfoldable pub blockBelow : List ℕ → Query → ℕ → ℕ → Bool
+blockBelow xs q x s = every (slotBelow xs (q .lo) x) (from s (q .length))
+
+-- each start from one up to another has a slot in its block that is not below x
+abbrev pub Passed : List ℕ → Query → ℕ → ℕ → ℕ → Type 0
+Passed xs q x start end = (s : ℕ) → start ≤ s → s < end → blockBelow xs q x s ≡ false
 
 module _ (xs : List ℕ) (q : Query) (s : ℕ) where
   -- the states that the octets say
@@ -23,11 +29,10 @@ module _ (xs : List ℕ) (q : Query) (s : ℕ) where
   -- ---- all below x
 
   -- then below a greater number too
-  pub block-greater : (x y : ℕ) → x ≤ y → blockBelow xs q x s ≡ true → blockBelow xs q y s ≡ true
+  block-greater : (x y : ℕ) → x ≤ y → blockBelow xs q x s ≡ true → blockBelow xs q y s ≡ true
   unfolding blockBelow
   block-greater x y h =
-      every-sub (slotBelow xs (q .lo) x) (slotBelow xs (q .lo) y)
-      (λ slot e. let k = ltb-true (getD xs (slot - q .lo) 0) x e in lt-ltb (getD xs (slot - q .lo) 0) y (omega arith)) (from s (q .length))
+      every-sub (slotBelow xs (q .lo) x) (slotBelow xs (q .lo) y) (λ slot. octet-greater (getD xs (slot - q .lo) 0) x y h) (from s (q .length))
 
   -- the next block, if the slot behind this one is below x
   pub block-next : (x : ℕ) → blockBelow xs q x s ≡ true → slotBelow xs (q .lo) x (s + q .length) ≡ true → blockBelow xs q x (s + 1) ≡ true
@@ -49,24 +54,24 @@ module _ (xs : List ℕ) (q : Query) (s : ℕ) where
 
   -- ---- the level
 
-  -- below 1: level 0
+  -- all below 1: level 0
   pub block-level0 : blockBelow xs q 1 s ≡ level0 states (q .length) s
   unfolding blockBelow level0
   block-level0 = every-from-agree _ _ s (q .length) (λ slot l k. octet-free (getD xs (slot - q .lo) 0))
 
-  -- below 2: none is taken
+  -- all below 2: none is taken
   block-untaken : blockBelow xs q 2 s ≡ not (has (λ slot. isTaken (states slot)) (from s (q .length)))
   unfolding blockBelow
   block-untaken =
       every-from-agree (slotBelow xs (q .lo) 2) (λ slot. not (isTaken (states slot))) s (q .length) (λ slot l k. octet-untaken (getD xs (slot - q .lo) 0))
       ∙ every-not (λ slot. isTaken (states slot)) (from s (q .length))
 
-  -- then it is level 1 where it isn't level 0
-  pub block-level1 : blockBelow xs q 2 s ≡ true → not (level0 states (q .length) s) ≡ level1 states (q .length) s
+  -- all below 1: not level 1
+  pub free-level1 : blockBelow xs q 1 s ≡ true → level1 states (q .length) s ≡ false
   unfolding level1
-  block-level1 h = rw (← block-untaken, h, and-true)
+  free-level1 h = rw (← block-level0, h)
 
-  -- not below 1 or more: not level 0
+  -- not all below 1 or more: not level 0
   pub passed-level0 : (x : ℕ) → 1 ≤ x → blockBelow xs q x s ≡ false → level0 states (q .length) s ≡ false
   passed-level0 x l h = go (level0 states (q .length) s) refl
     where
@@ -74,7 +79,12 @@ module _ (xs : List ℕ) (q : Query) (s : ℕ) where
       go true e = absurd (false≢true (sym h ∙ block-greater 1 x l (block-level0 ∙ e)))
       go false e = refl
 
-  -- not below 2: not level 1
+  -- not all below 2: not level 1
   pub passed-level1 : blockBelow xs q 2 s ≡ false → level1 states (q .length) s ≡ false
   unfolding level1
   passed-level1 h = rw (← block-untaken, h, and-false)
+
+  -- all below 2, but not all below 1: level 1
+  pub untaken-level1 : blockBelow xs q 1 s ≡ false → blockBelow xs q 2 s ≡ true → level1 states (q .length) s ≡ true
+  unfolding level1
+  untaken-level1 h k = rw (← block-level0, h, ← block-untaken, k)

@@ -1,8 +1,8 @@
 pub mod Streak
 pub mod Octets
 pub mod Blocks
-pub mod Skipped
-pub mod Stretch
+pub mod Decided
+pub mod Behind
 pub mod Filled
 pub mod Listed
 pub mod Scanned

@@ -5,14 +5,22 @@ use mathlib.Core.Path.{_≡_, refl, ap, _∙_}
 use mathlib.Core.Bool.{Bool, true, false, cond, not}
 use mathlib.Core.List.{List}
 use lib.Dec.{ltb, eqb}
-use borrow.Author.Tests.{eqb-true, eqb-false, lt-ltb, le-ltb}
+use borrow.Author.Tests.{ltb-true, eqb-true, eqb-false, lt-ltb, le-ltb}
 use Rattle.slots.specs.declared.Slot.the-variants.{Free, Reusable, Taken}
 use Rattle.search.specs.Search.{isFree, isTaken}
-use Rattle.search.specs.Steps.{slotOf, octetBelow, slotBelow, streak}
+use Rattle.search.specs.Steps.{slotOf, octetBelow, streak}
 use Rattle.search.proofs.Streak.{streak-agree}
 
+-- a slot's octet is below x
+abbrev pub slotBelow : List ℕ → ℕ → ℕ → ℕ → Bool
+slotBelow xs lo x slot = octetBelow xs x (slot - lo)
+
+-- below a number is below a greater one
+pub octet-greater : (a x y : ℕ) → x ≤ y → ltb a x ≡ true → ltb a y ≡ true
+octet-greater a x y h e = let k = ltb-true a x e in lt-ltb a y (omega arith)
+
 -- 0 alone is below 1
-pub octet-zero : (x : ℕ) → ltb x 1 ≡ eqb x 0
+octet-zero : (x : ℕ) → ltb x 1 ≡ eqb x 0
 octet-zero x = go (eqb x 0) refl
   where
     go : (b : Bool) → eqb x 0 ≡ b → ltb x 1 ≡ b

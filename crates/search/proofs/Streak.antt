@@ -34,7 +34,7 @@ streak-≤ p lo (suc n) = go (p (lo + n)) (streak-≤ p lo n)
     go false h = omega arith
 
 -- one number more
-pub streak-next : (p : ℕ → Bool) (lo n : ℕ) → streak p lo (n + 1) ≡ cond (p (lo + n)) (streak p lo n + 1) 0
+streak-next : (p : ℕ → Bool) (lo n : ℕ) → streak p lo (n + 1) ≡ cond (p (lo + n)) (streak p lo n + 1) 0
 unfolding streak
 streak-next p lo n = rw add-one
 

@@ -1,16 +1,14 @@
 // The search for blocks of slots that may be used, over the promise of a window's slot states; and pick.
 use table::State;
 ghost use mathlib.Core.Path.{_≡_};
-ghost use mathlib.Core.Bool.{true, cond};
 ghost use mathlib.Core.List.{[], _++_};
 ghost use Prim.Native.Nat.{_+_, _-_, _≤_, _<_};
-ghost use lib.Dec.{eqb};
 ghost use lib.ListN.{length, length as len, take};
 ghost use Rattle.octets.specs.Octets.{holdsOnly};
 ghost use Rattle.octets.specs.Refusals.{firstOf};
 ghost use Rattle.table.specs.Memory.{channel, tableOf};
 ghost use Rattle.search.specs.Search.{statesOf, queryTests, listed, listAfter, searched, picked};
-ghost use Rattle.search.specs.Steps.{WellAsked, statesIn, octetBelow, streak, blockBelow, Skipped, boundBy, pushedNext, pushed, Scanned};
+ghost use Rattle.search.specs.Steps.{WellAsked, statesIn, octetBelow, streak, boundBy, BehindAre, ListedOn};
 ghost use Rattle.search.specs.Claims.{Claims};
 
 // What a search is given: where a block may start, its length, and how many starts are wanted.
@@ -31,13 +29,6 @@ pub struct Found {
 pub struct Picked {
     pub refusal: u32,
     pub place: u32,
-}
-
-// How far a search has come: the starts below one are decided, and so many of level 0 and of level 1 are listed.
-struct Progress {
-    start: u32,
-    listed: usize,
-    kept: usize,
 }
 
 fn refuse(n: u32) -> Found
@@ -99,35 +90,6 @@ fn up_to_last(states: &[u8], at: usize, n: usize, x: u8) -> usize
     0
 }
 
-// A streak of free slots with one slot more, by its octet.
-fn lengthen(free: usize, octet: u8) -> usize
-    requires { ⌜ free < 4294967295 ⌝ }
-    ensures { λ r. ⌜ r ≡ cond (eqb octet 0) (free + 1) 0 ⌝ }
-{
-    if octet == 0 {
-        return free + 1;
-    }
-    0
-}
-
-// The first start from one on whose block is all below x; hi + 1 where there is none. A slot that is not below x rules out every start
-// whose block holds it, so most slots are never looked at.
-fn skip(states: &[u8], q: Query, start: u32, x: u8) -> u32
-    requires { ⌜ (q .lo ≤ start) × (start ≤ q .hi + 1) × (q .hi ≤ 1000000000) × (q .length ≤ 32) × (q .hi + q .length < q .lo + length (now states)) ⌝ }
-    ensures { λ r. ⌜ Skipped (now (states .entry)) q x start r ⌝ }
-{
-    let length = q.length as usize;
-    let mut s = start;
-    while s <= q.hi {
-        let n = up_to_last(states, (s - q.lo) as usize, length, x);
-        if n == 0 {
-            return s;
-        }
-        s += n as u32;
-    }
-    q.hi + 1
-}
-
 // What a block must be below to matter: 2, none taken; or 1, all free, once enough level 1 starts are kept.
 fn bound(kept: usize, most: usize) -> u8
     ensures { λ r. ⌜ r ≡ boundBy kept most ⌝ }
@@ -140,17 +102,28 @@ fn bound(kept: usize, most: usize) -> u8
 
 // ---- the list
 
-// Puts a start at place n, if it fits and n is below most; the next place.
-fn push(list: &mut [u32], n: usize, most: usize, start: u32, fits: bool) -> usize
-    requires { ⌜ most ≤ length (now list) ⌝ }
-    ensures place { λ r. ⌜ r ≡ pushedNext fits n most ⌝ }
-    ensures list { λ _. ⌜ now (list .exit) ≡ pushed fits n most start (now (list .entry)) ⌝ }
+// Lists a start, and the next ones as long as the slot behind the block before has a state, behind the n numbers of a list that has room
+// for `wanted`; how many it holds then.
+fn list_while(states: &[u8], q: Query, list: &mut [u32], n: usize, start: u32, state: u8) -> usize
+    requires { ⌜ (q .lo ≤ start) × (start ≤ q .hi) × (q .hi ≤ 1000000000) × (q .length ≤ 32) × (q .hi + q .length < q .lo + length (now states)) ⌝ }
+    requires { ⌜ (n < q .wanted) × (q .wanted ≤ length (now list)) ⌝ }
+    ensures number { λ r. ⌜ (n < r) × (r ≤ q .wanted) × (start + (r - n) ≤ q .hi + 1) ⌝ }
+    ensures behind { λ r. ⌜ BehindAre (now (states .entry)) q state start (start + (r - n)) ⌝ }
+    ensures list { λ r. ⌜ ListedOn (length (now (list .entry))) (q .wanted) start n r (now (list .entry)) (now (list .exit)) ⌝ }
 {
-    if fits & (n < most) {
-        list[n] = start;
-        return n + 1;
+    let length = q.length as usize;
+    let most = q.wanted as usize;
+    let mut s = start;
+    let mut k = n;
+    while k < most {
+        list[k] = s;
+        k += 1;
+        if (s == q.hi) | (states[(s - q.lo) as usize + length] != state) {
+            return k;
+        }
+        s += 1;
     }
-    n
+    k
 }
 
 // Puts the first `kept` numbers of `later` behind the first n of the list, and cuts after `most`; how many there are then.
@@ -162,75 +135,49 @@ fn append(list: &mut [u32], n: usize, most: usize, later: &[u32], kept: usize) -
 {
     let mut k = n;
     let mut i = 0;
-    while i < kept {
-        k = push(list, k, most, later[i], true);
+    while (i < kept) & (k < most) {
+        list[k] = later[i];
+        k += 1;
         i += 1;
     }
     k
 }
 
-// From a start whose block has no taken slot: decides it and those after it, as far as the slots behind matter, or until the list is full.
-fn along(states: &[u8], q: Query, list: &mut [u32], later: &mut [u32], p: Progress) -> Progress
-    requires { ⌜ WellAsked q (length (now list)) × (q .wanted ≤ length (now later)) × (q .hi + q .length < q .lo + length (now states)) ⌝ }
-    requires { ⌜ (p .start ≤ q .hi) × (blockBelow (now states) q 2 (p .start) ≡ true) ⌝ }
-    requires { ⌜ Scanned (statesIn (now states) (q .lo)) q (length (now list)) (length (now later)) (p .start) (p .listed) (p .kept) (now list) (now later) ⌝ }
-    ensures ahead { λ r. ⌜ p .start < r .start ⌝ }
-    ensures decided { λ r. ⌜ Scanned (statesIn (now (states .entry)) (q .lo)) q (length (now (list .entry))) (length (now (later .entry))) (r .start) (r .listed) (r .kept) (now (list .exit)) (now (later .exit)) ⌝ }
-{
-    let length = q.length as usize;
-    let most = q.wanted as usize;
-    let mut start = p.start;
-    let mut listed = p.listed;
-    let mut kept = p.kept;
-    let mut free = length - up_to_last(states, (start - q.lo) as usize, length, 1);
-    while start <= q.hi {
-        let all = length <= free;
-        listed = push(list, listed, most, start, all);
-        kept = push(later, kept, most, start, !all);
-        let behind = states[(start - q.lo) as usize + length];
-        start += 1;
-        if (listed == most) | (bound(kept, most) <= behind) {
-            return Progress {
-                start,
-                listed,
-                kept,
-            };
-        }
-        free = lengthen(free, behind);
-    }
-    Progress {
-        start,
-        listed,
-        kept,
-    }
-}
-
 // Goes along the states of a query's slots, from lo on and with an octet more behind them: the level 0 starts in `list` and the level 1
-// starts in `later`, both wiped.
+// starts in `later`, both wiped. A slot that rules a block out rules out every start whose block holds it, so many slots are never looked at.
 fn scan(states: &[u8], q: Query, list: &mut [u32], later: &mut [u32]) -> usize
     requires { ⌜ WellAsked q (length (now list)) × (q .wanted ≤ length (now later)) × (q .hi + q .length < q .lo + length (now states)) ⌝ }
     requires { ⌜ (now list ≡ holdsOnly (length (now list)) []) × (now later ≡ holdsOnly (length (now later)) []) ⌝ }
     ensures number { λ r. ⌜ r ≡ length (listed (statesIn (now (states .entry)) (q .lo)) q) ⌝ }
     ensures list { λ _. ⌜ now (list .exit) ≡ holdsOnly (length (now (list .entry))) (listed (statesIn (now (states .entry)) (q .lo)) q) ⌝ }
 {
+    let length = q.length as usize;
     let most = q.wanted as usize;
-    let mut p = Progress {
-        start: skip(states, q, q.lo, 2),
-        listed: 0,
-        kept: 0,
-    };
-    while p.start <= q.hi {
-        let r = along(states, q, list, later, p);
-        if r.listed == most {
-            return most;
+    let mut start = q.lo;
+    let mut listed = 0;
+    let mut kept = 0;
+    while start <= q.hi {
+        let at = (start - q.lo) as usize;
+        let reserved = up_to_last(states, at, length, 1);
+        if reserved == 0 {
+            let n = list_while(states, q, list, listed, start, 0);
+            if n == most {
+                return most;
+            }
+            start += (n - listed) as u32;
+            listed = n;
+        } else {
+            let ruled_out = up_to_last(states, at, reserved, bound(kept, most));
+            if ruled_out == 0 {
+                let n = list_while(states, q, later, kept, start, 1);
+                start += (n - kept) as u32;
+                kept = n;
+            } else {
+                start += ruled_out as u32;
+            }
         }
-        p = Progress {
-            start: skip(states, q, r.start, bound(r.kept, most)),
-            listed: r.listed,
-            kept: r.kept,
-        };
     }
-    append(list, p.listed, most, later, p.kept)
+    append(list, listed, most, later, kept)
 }
 
 // The same by the records held, in a wiped window that has room for the slots asked about and 32 octets more.
@@ -246,10 +193,9 @@ fn look(
     wanted: u32,
     window: &mut [u8],
     list: &mut [u32],
-    later: &mut [u32],
 ) -> usize
-    requires { ⌜ WellAsked (record { lo = lo; hi = hi; length = length; wanted = wanted }) (len (now list)) × (wanted ≤ len (now later)) × (hi + length + 32 ≤ lo + len (now window)) ⌝ }
-    requires { ⌜ (now list ≡ holdsOnly (len (now list)) []) × (now later ≡ holdsOnly (len (now later)) []) × (now window ≡ holdsOnly (len (now window)) []) ⌝ }
+    requires { ⌜ WellAsked (record { lo = lo; hi = hi; length = length; wanted = wanted }) (len (now list)) × (hi + length + 32 ≤ lo + len (now window)) ⌝ }
+    requires { ⌜ (now list ≡ holdsOnly (len (now list)) []) × (now window ≡ holdsOnly (len (now window)) []) ⌝ }
     ensures number { λ r. ⌜ r ≡ len (listed (statesOf (tableOf (channel (record { m1 = m1; now = time; count = count }) (now (memory .entry))))) (record { lo = lo; hi = hi; length = length; wanted = wanted })) ⌝ }
     ensures list { λ _. ⌜ now (list .exit) ≡ holdsOnly (len (now (list .entry))) (listed (statesOf (tableOf (channel (record { m1 = m1; now = time; count = count }) (now (memory .entry))))) (record { lo = lo; hi = hi; length = length; wanted = wanted })) ⌝ }
 {
@@ -266,13 +212,36 @@ fn look(
     };
     let n = (hi - lo + length) as usize + 32;
     slots::raise(s, memory, lo, &mut window[..n]);
-    scan(window, q, list, later)
+    let mut later = [0u32; 16];
+    scan(window, q, list, &mut later)
 }
 
-// The same for a query about some hundred slots: a short window is sooner cleared.
-fn look_near(s: State, memory: &[u8], q: Query, list: &mut [u32], later: &mut [u32]) -> usize
-    requires { ⌜ WellAsked q (length (now list)) × (q .wanted ≤ length (now later)) × (q .hi + q .length + 32 ≤ q .lo + 192) ⌝ }
-    requires { ⌜ (now list ≡ holdsOnly (length (now list)) []) × (now later ≡ holdsOnly (length (now later)) []) ⌝ }
+// The same for a query about some ten slots: a short window is sooner cleared.
+fn look_close(s: State, memory: &[u8], q: Query, list: &mut [u32]) -> usize
+    requires { ⌜ WellAsked q (length (now list)) × (q .hi + q .length + 32 ≤ q .lo + 64) ⌝ }
+    requires { ⌜ now list ≡ holdsOnly (length (now list)) [] ⌝ }
+    ensures number { λ r. ⌜ r ≡ length (listed (statesOf (tableOf (channel s (now (memory .entry))))) q) ⌝ }
+    ensures list { λ _. ⌜ now (list .exit) ≡ holdsOnly (length (now (list .entry))) (listed (statesOf (tableOf (channel s (now (memory .entry))))) q) ⌝ }
+{
+    let mut window = [0u8; 64];
+    look(
+        s.m1,
+        s.now,
+        s.count,
+        memory,
+        q.lo,
+        q.hi,
+        q.length,
+        q.wanted,
+        &mut window,
+        list,
+    )
+}
+
+// The same for one about some hundred.
+fn look_near(s: State, memory: &[u8], q: Query, list: &mut [u32]) -> usize
+    requires { ⌜ WellAsked q (length (now list)) × (q .hi + q .length + 32 ≤ q .lo + 192) ⌝ }
+    requires { ⌜ now list ≡ holdsOnly (length (now list)) [] ⌝ }
     ensures number { λ r. ⌜ r ≡ length (listed (statesOf (tableOf (channel s (now (memory .entry))))) q) ⌝ }
     ensures list { λ _. ⌜ now (list .exit) ≡ holdsOnly (length (now (list .entry))) (listed (statesOf (tableOf (channel s (now (memory .entry))))) q) ⌝ }
 {
@@ -288,14 +257,13 @@ fn look_near(s: State, memory: &[u8], q: Query, list: &mut [u32], later: &mut [u
         q.wanted,
         &mut window,
         list,
-        later,
     )
 }
 
 // The same for one about a thousand.
-fn look_ahead(s: State, memory: &[u8], q: Query, list: &mut [u32], later: &mut [u32]) -> usize
-    requires { ⌜ WellAsked q (length (now list)) × (q .wanted ≤ length (now later)) × (q .hi + q .length + 32 ≤ q .lo + 1152) ⌝ }
-    requires { ⌜ (now list ≡ holdsOnly (length (now list)) []) × (now later ≡ holdsOnly (length (now later)) []) ⌝ }
+fn look_ahead(s: State, memory: &[u8], q: Query, list: &mut [u32]) -> usize
+    requires { ⌜ WellAsked q (length (now list)) × (q .hi + q .length + 32 ≤ q .lo + 1152) ⌝ }
+    requires { ⌜ now list ≡ holdsOnly (length (now list)) [] ⌝ }
     ensures number { λ r. ⌜ r ≡ length (listed (statesOf (tableOf (channel s (now (memory .entry))))) q) ⌝ }
     ensures list { λ _. ⌜ now (list .exit) ≡ holdsOnly (length (now (list .entry))) (listed (statesOf (tableOf (channel s (now (memory .entry))))) q) ⌝ }
 {
@@ -311,14 +279,13 @@ fn look_ahead(s: State, memory: &[u8], q: Query, list: &mut [u32], later: &mut [
         q.wanted,
         &mut window,
         list,
-        later,
     )
 }
 
 // The same for a superframe of the usual 4,500 slots.
-fn look_along(s: State, memory: &[u8], q: Query, list: &mut [u32], later: &mut [u32]) -> usize
-    requires { ⌜ WellAsked q (length (now list)) × (q .wanted ≤ length (now later)) × (q .hi + q .length + 32 ≤ q .lo + 4608) ⌝ }
-    requires { ⌜ (now list ≡ holdsOnly (length (now list)) []) × (now later ≡ holdsOnly (length (now later)) []) ⌝ }
+fn look_along(s: State, memory: &[u8], q: Query, list: &mut [u32]) -> usize
+    requires { ⌜ WellAsked q (length (now list)) × (q .hi + q .length + 32 ≤ q .lo + 4608) ⌝ }
+    requires { ⌜ now list ≡ holdsOnly (length (now list)) [] ⌝ }
     ensures number { λ r. ⌜ r ≡ length (listed (statesOf (tableOf (channel s (now (memory .entry))))) q) ⌝ }
     ensures list { λ _. ⌜ now (list .exit) ≡ holdsOnly (length (now (list .entry))) (listed (statesOf (tableOf (channel s (now (memory .entry))))) q) ⌝ }
 {
@@ -334,25 +301,28 @@ fn look_along(s: State, memory: &[u8], q: Query, list: &mut [u32], later: &mut [
         q.wanted,
         &mut window,
         list,
-        later,
     )
 }
 
 // The same for any query: at most 15,360 starts, 31 slots behind the last, and 32 octets more.
-fn look_far(s: State, memory: &[u8], q: Query, list: &mut [u32], later: &mut [u32]) -> usize
-    requires { ⌜ WellAsked q (length (now list)) × (q .wanted ≤ length (now later)) × (q .hi + q .length + 32 ≤ q .lo + 15423) ⌝ }
-    requires { ⌜ (now list ≡ holdsOnly (length (now list)) []) × (now later ≡ holdsOnly (length (now later)) []) ⌝ }
+fn look_far(s: State, memory: &[u8], q: Query, list: &mut [u32]) -> usize
+    requires { ⌜ WellAsked q (length (now list)) × (q .hi + q .length + 32 ≤ q .lo + 15423) ⌝ }
+    requires { ⌜ now list ≡ holdsOnly (length (now list)) [] ⌝ }
     ensures number { λ r. ⌜ r ≡ length (listed (statesOf (tableOf (channel s (now (memory .entry))))) q) ⌝ }
     ensures list { λ _. ⌜ now (list .exit) ≡ holdsOnly (length (now (list .entry))) (listed (statesOf (tableOf (channel s (now (memory .entry))))) q) ⌝ }
 {
-    if q.hi - q.lo <= 128 {
-        return look_near(s, memory, q, list, later);
+    let asked = q.hi - q.lo + q.length;
+    if asked <= 32 {
+        return look_close(s, memory, q, list);
     }
-    if q.hi - q.lo <= 1088 {
-        return look_ahead(s, memory, q, list, later);
+    if asked <= 160 {
+        return look_near(s, memory, q, list);
     }
-    if q.hi - q.lo <= 4544 {
-        return look_along(s, memory, q, list, later);
+    if asked <= 1120 {
+        return look_ahead(s, memory, q, list);
+    }
+    if asked <= 4576 {
+        return look_along(s, memory, q, list);
     }
     let mut window = [0u8; 15423];
     look(
@@ -366,7 +336,6 @@ fn look_far(s: State, memory: &[u8], q: Query, list: &mut [u32], later: &mut [u3
         q.wanted,
         &mut window,
         list,
-        later,
     )
 }
 
@@ -378,13 +347,12 @@ pub fn search(s: State, memory: &[u8], q: Query, list: &mut [u32]) -> Found
 {
     wipe(list);
     let places = list.len();
-    if table::is_sound(s, memory) {
+    if sound::is_sound(s.m1, s.now, s.count, memory) {
         let n = ask(s, q, places);
         if n != 0 {
             return refuse(n);
         }
-        let mut later = [0u32; 16];
-        let found = look_far(s, memory, q, list, &mut later);
+        let found = look_far(s, memory, q, list);
         if found == 0 {
             return refuse(21);
         }

@@ -1,7 +1,7 @@
 -- `search::look` meets its contract: the window's octets say the states that the records give. Assumes nothing.
 use Prim.Native.Nat.{ℕ, _+_, _-_, _≤_}
 use native.Mathlib.Omega.{arith}
-use mathlib.Core.Path.{_≡_, sym, ap, _∙_}
+use mathlib.Core.Path.{_≡_, refl, sym, ap, _∙_}
 use mathlib.Core.List.{List, _++_}
 use denote.Ref.{now}
 use lib.ListN.{length, take, drop, replicate, length-append, length-drop}
@@ -26,14 +26,14 @@ room s = let a = s .args in a .hi - a .lo + a .length + 32
 
 -- so many it has
 room-≤ : (s : tie.Start) → room s ≤ length (now (s .args .window))
-room-≤ s = omega (arith, s .pre .0 .0 .in-order, s .pre .0 .2)
+room-≤ s = omega (arith, s .pre .0 .0 .in-order, s .pre .0 .1)
 
 -- those are as many
 part : (s : tie.Start) → length (take (room s) (now (s .args .window))) ≡ room s
 part s = length-take-le (room s) (now (s .args .window)) (room-≤ s)
 
 abbrev entry : tie.After-raise → tie.Start
-entry c = c .before .before .before .before .before .before
+entry c = c .before .before .before .before .before
 
 -- ---- the needs
 
@@ -53,10 +53,13 @@ slice-relend-prefix-raise : tie.Need-slice-relend-prefix-raise
 slice-relend-prefix-raise c = search needs
 
 slice-aggregate-raise : tie.Need-slice-aggregate-raise
-slice-aggregate-raise c = sym (part (c .before .before .before .before .before))
+slice-aggregate-raise c = sym (part (c .before .before .before .before))
 
 raise-requires : tie.Need-raise-requires
 raise-requires c κs = search needs
+
+slice-aggregate-scan : tie.Need-slice-aggregate-scan
+slice-aggregate-scan c = search needs
 
 scan-requires : tie.Need-scan-requires
 scan-requires c κs =
@@ -65,7 +68,7 @@ scan-requires c κs =
     let w = now (s .args .window) in
     let long : length (x .raise .last .1 .1 .1 .0 ++ drop (room s) w) ≡ length w =
     rw (length-append, length-drop) (omega (arith, x .raise .kept .1 .1 .1 .0, part s, room-≤ s)) in
-    ((s .pre .0 .0, s .pre .0 .1, omega (arith, long, s .pre .0 .2)), (s .pre .1 .0, s .pre .1 .1))
+    ((s .pre .0 .0, s .pre .0 .0 .few, omega (arith, long, s .pre .0 .1)), (s .pre .1 .0, refl))
 
 same-length : tie.Need-same-length
 same-length c = search needs
@@ -73,13 +76,10 @@ same-length c = search needs
 same-length-2 : tie.Need-same-length-2
 same-length-2 c = search needs
 
-same-length-3 : tie.Need-same-length-3
-same-length-3 c = search needs
-
 returns : tie.Need-returns
 unfolding tableOf
 returns c =
-    let y = c .before .before .before .before in
+    let y = c .before .before .before in
     let x = y .before .before .before .before .before .before in
     let s = entry x in
     let a = s .args in
@@ -87,7 +87,7 @@ returns c =
     let asked : Query = record { lo = a .lo; hi = a .hi; length = a .length; wanted = a .wanted } in
     let rs = records (channel (record { m1 = a .m1; now = a .time; count = a .count }) (now (a .memory))) in
     let rest = drop n (now (a .window)) in
-    let wiped : take n (now (a .window)) ≡ replicate n 0 = ap (take n) (s .pre .1 .2) ∙ take-replicate n (length (now (a .window)) - 0) (omega (arith, room-≤ s)) in
+    let wiped : take n (now (a .window)) ≡ replicate n 0 = ap (take n) (s .pre .1 .1) ∙ take-replicate n (length (now (a .window)) - 0) (omega (arith, room-≤ s)) in
     let e : x .raise .last .1 .1 .1 .0 ≡ holdsOnly n (windowStates (a .m1) rs (a .lo) (n - 32)) =
     x .raise .ensures ∙ rw (part s) (ap (λ (ys : List ℕ). zeroFrom (n - 32) (raised (a .m1) rs (a .lo) ys)) wiped) ∙ window-room (a .m1) rs (a .lo) n in
     let l = ap (λ (xs : List ℕ). listed (statesIn (xs ++ rest) (a .lo)) asked) e ∙ listed-window (slotState (a .m1) rs) asked (n - 32) n rest (omega arith) in
@@ -104,8 +104,8 @@ look-spec =
     slice-relend-prefix-raise
     slice-aggregate-raise
     raise-requires
+    slice-aggregate-scan
     scan-requires
     same-length
     same-length-2
-    same-length-3
     returns)

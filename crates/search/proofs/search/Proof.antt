@@ -1,7 +1,7 @@
 -- `search::search` meets its contract: what it is refused for, and else what the look at the window finds. Assumes nothing.
 use Prim.Native.Nat.{ℕ}
 use native.Mathlib.Omega.{arith}
-use mathlib.Core.Path.{_≡_, refl, sym, ap, _∙_}
+use mathlib.Core.Path.{_≡_, sym, ap, _∙_}
 use mathlib.Core.Bool.{true, false}
 use denote.Ref.{now}
 use lib.ListN.{length}
@@ -49,7 +49,7 @@ module _ (c : tie.After-ask) where
   is-well-asked z = well-asked (given at-is-sound .m1) (given at-is-sound .now) (query at-is-sound) (places at-is-sound) (sym is-asked ∙ z)
 
 abbrev at-ask : tie.After-look-far → tie.After-ask
-at-ask c = c .before .before .before .before
+at-ask c = c .before .before .before
 
 -- ---- the needs
 
@@ -77,17 +77,14 @@ returns c =
     let g = refused-gives (given a) (query a) (places a) (d .ask .result) refused some in
     (c .refuse .ensures ∙ g .0, at-wipe a .wipe .ensures ∙ g .1)
 
-slice-aggregate-look-far : tie.Need-slice-aggregate-look-far
-slice-aggregate-look-far c = search needs
-
 look-far-requires : tie.Need-look-far-requires
 look-far-requires c κs =
-    let d = c .before .before .before in
+    let d = c .before .before in
     let w = at-wipe (at-is-sound d) .wipe in
-    let p = is-well-asked d (c .before .before .if2 .left) in
+    let passes = c .before .if2 .left in
     let a = at-is-sound d in
-    let fits = fits-window (given a) (query a) (places a) (is-sound d) (sym (is-asked d) ∙ c .before .before .if2 .left) in
-    ((rw (w .kept .0) p, p .few, fits), (rw (w .kept .0) (w .ensures), refl))
+    let fits = fits-window (given a) (query a) (places a) (is-sound d) (sym (is-asked d) ∙ passes) in
+    ((rw (w .kept .0) (is-well-asked d passes), fits), rw (w .kept .0) (w .ensures))
 
 refuse-requires-2 : tie.Need-refuse-requires-2
 refuse-requires-2 c κs = search needs
@@ -97,18 +94,18 @@ same-length-2 c = search needs
 
 returns-2 : tie.Need-returns-2
 returns-2 c =
-    let x = c .before .before .before .before .before in
+    let x = c .before .before .before .before in
     let d = at-ask x in
     let a = at-is-sound d in
-    let passes = sym (is-asked d) ∙ x .before .before .before .if2 .left in
+    let passes = sym (is-asked d) ∙ x .before .before .if2 .left in
     let g = none-gives (given a) (query a) (places a) (is-sound d) passes (sym (x .look-far .ensures .0) ∙ c .before .if3 .taken) in
     (c .refuse2 .ensures ∙ g .0, x .look-far .ensures .1 ∙ rw (at-wipe a .wipe .kept .0) (g .1))
 
-cast-t18 : tie.Need-cast-t18
-cast-t18 c =
-    let x = c .before .before .before .before in
+cast-t15 : tie.Need-cast-t15
+cast-t15 c =
+    let x = c .before .before .before in
     let a = at-is-sound (at-ask x) in
-    let p = is-well-asked (at-ask x) (x .before .before .before .if2 .left) in
+    let p = is-well-asked (at-ask x) (x .before .before .if2 .left) in
     omega (arith, x .look-far .ensures .0, length-listed (statesOf (tableOf (given a))) (query a), p .few)
 
 same-length-3 : tie.Need-same-length-3
@@ -116,10 +113,10 @@ same-length-3 c = search needs
 
 returns-3 : tie.Need-returns-3
 returns-3 c =
-    let x = c .before .before .before .before in
+    let x = c .before .before .before in
     let d = at-ask x in
     let a = at-is-sound d in
-    let passes = sym (is-asked d) ∙ x .before .before .before .if2 .left in
+    let passes = sym (is-asked d) ∙ x .before .before .if2 .left in
     let g = some-gives (given a) (query a) (places a) (is-sound d) passes (λ z. c .if3 .left (x .look-far .ensures .0 ∙ z)) in
     (rw (x .look-far .ensures .0) (g .0), x .look-far .ensures .1 ∙ rw (at-wipe a .wipe .kept .0) (g .1))
 
@@ -146,12 +143,11 @@ search-spec =
     refuse-requires
     same-length
     returns
-    slice-aggregate-look-far
     look-far-requires
     refuse-requires-2
     same-length-2
     returns-2
-    cast-t18
+    cast-t15
     same-length-3
     returns-3
     refuse-requires-3
