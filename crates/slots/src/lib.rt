@@ -148,6 +148,14 @@ fn less(a: u64, b: u64) -> u64
     a - b
 }
 
+// How far a is ahead of b. Where it is behind, the processor's subtraction gives a number above all others here, and only the time goes by
+// that.
+fn ahead_of(a: u64, b: u64) -> u64
+    ensures { λ r. ⌜ (b ≤ a → r ≡ a - b) ⌝ }
+{
+    std::num::wrapping_sub_u64(a, b)
+}
+
 // A product that stays small.
 fn times(n: u64, m: u64) -> u64
     requires { ⌜ (n ≤ 255) × (m ≤ 4294967295) ⌝ }
@@ -377,14 +385,15 @@ fn mark_any_superframes(
     }
 }
 
-// Marks a series of blocks in so many superframes of m1 slots. One that starts past the end or is over before lo is left by one test: apart, the
-// first of two would often be guessed wrong. Blocks that touch, or of more than 32 slots, which no sound table has, go a way of their own.
+// Marks a series of blocks in so many superframes of m1 slots. One that starts past the end or is over before lo is left by one test, as its end
+// is ahead of lo by more than both are wide, or behind it: apart, the first of two tests would often be guessed wrong. Blocks that touch, or of
+// more than 32 slots, which no sound table has, go a way of their own.
 fn mark_series(out: &mut [u8], lo: u64, end: u64, m1: u64, superframes: u64, s: Series, mark: u8)
     requires { ⌜ WindowFits lo end (now out) × (m1 ≤ 4294967295) × (0 < superframes) × (superframes ≤ 255) × (s .start ≤ 4294967295) × (s .spacing ≤ 4294967295) × (0 < s .blocks) × (s .blocks ≤ 255) × (s .length ≤ 255) × (mark ≤ 2) ⌝ }
     ensures { λ _. ⌜ MarkedWhere (end - lo) mark (λ i. holdsIn m1 superframes s (lo + i)) (now (out .entry)) (now (out .exit)) ⌝ }
 {
-    let last = s.start + times(superframes - 1, m1) + times(s.blocks - 1, s.spacing);
-    if lesser(last + s.length, end) <= larger(s.start, lo) {
+    let width = times(superframes - 1, m1) + times(s.blocks - 1, s.spacing) + s.length;
+    if end - lo + width <= ahead_of(s.start + width, lo) {
         return;
     }
     if (s.spacing <= s.length) | (32 < s.length) {

@@ -4,8 +4,8 @@ use native.Mathlib.Omega.{arith}
 use lib.Dec.{leb, ltb}
 use denote.Ref.{now}
 use borrow.Author.Needs.{needs}
-use borrow.Author.Tests.{leb-false, ltb-false}
-use Rattle.octets.proofs.Refusals.{or-eq-false}
+use borrow.Author.Tests.{leb-true, leb-false, ltb-false}
+use Rattle.octets.proofs.Refusals.{by-test, or-eq-false}
 use Rattle.slots.specs.Steps.{holdsIn}
 use Rattle.slots.proofs.Marks.{marked-none}
 use Rattle.slots.proofs.Blocks.{holdsIn-outside}
@@ -13,7 +13,7 @@ use Rattle.slots.proofs.mark_series.Statement.{statement}
 use Rattle.slots.proofs.mark_series.Tie as tie
 
 abbrev entry : tie.Else1 → tie.Start
-entry c = c .before .before .before .before .before .before .before .before .before
+entry c = c .before .before .before .before .before .before .before .before
 
 sub-times : tie.Need-sub-times
 sub-times c = search needs
@@ -21,35 +21,42 @@ sub-times c = search needs
 times-requires : tie.Need-times-requires
 times-requires c κs = search needs
 
-add-last : tie.Need-add-last
-add-last c = search needs
-
 sub-times-2 : tie.Need-sub-times-2
 sub-times-2 c = search needs
 
 times-requires-2 : tie.Need-times-requires-2
 times-requires-2 c κs = search needs
 
-add-last-2 : tie.Need-add-last-2
-add-last-2 c = search needs
+add-width : tie.Need-add-width
+add-width c = search needs
 
-add-lesser : tie.Need-add-lesser
-add-lesser c = search needs
+add-width-2 : tie.Need-add-width-2
+add-width-2 c = search needs
 
-lesser-requires : tie.Need-lesser-requires
-lesser-requires c κs = search needs
+sub-if1 : tie.Need-sub-if1
+sub-if1 c = search needs
 
-larger-requires : tie.Need-larger-requires
-larger-requires c κs = search needs
+add-if1 : tie.Need-add-if1
+add-if1 c = search needs
+
+add-ahead-of : tie.Need-add-ahead-of
+add-ahead-of c = search needs
+
+ahead-of-requires : tie.Need-ahead-of-requires
+ahead-of-requires c κs = search needs
 
 returns : tie.Need-returns
 returns c =
+    let x = c .before .ahead-of in
     let t₂ = c .before .before .before .before in
-    let t₁ = t₂ .before .before .before in
+    let t₁ = t₂ .before .before in
     let a = t₁ .before .before .args in
+    let past = a .s .start + (t₁ .times .result + t₂ .times2 .result + a .s .length) in
     marked-none (λ i. holdsIn (a .m1) (a .superframes) (a .s) (a .lo + i)) (now (a .out)) (λ i l.
     holdsIn-outside (a .s) (a .lo + i) (a .m1) (a .superframes) (λ e.
-    omega (arith, t₁ .times .ensures .0, t₂ .times2 .ensures .0, c .if1 .taken, c .before .before .lesser .ensures, c .before .larger .ensures)))
+    by-test (leb (a .lo) past)
+    (λ b. omega (arith, t₁ .times .ensures .0, t₂ .times2 .ensures .0, c .if1 .taken, x .ensures (leb-true (a .lo) past b)))
+    (λ b. omega (arith, t₁ .times .ensures .0, t₂ .times2 .ensures .0, leb-false (a .lo) past b))))
 
 mark-any-superframes-requires : tie.Need-mark-any-superframes-requires
 mark-any-superframes-requires c κs = search needs
@@ -81,13 +88,14 @@ mark-series-spec =
     (tie.spec
     sub-times
     times-requires
-    add-last
     sub-times-2
     times-requires-2
-    add-last-2
-    add-lesser
-    lesser-requires
-    larger-requires
+    add-width
+    add-width-2
+    sub-if1
+    add-if1
+    add-ahead-of
+    ahead-of-requires
     returns
     mark-any-superframes-requires
     same-length
