@@ -347,7 +347,7 @@ pub fn search(s: State, memory: &[u8], q: Query, list: &mut [u32]) -> Found
 {
     wipe(list);
     let places = list.len();
-    if sound::is_sound(s.m1, s.now, s.count, memory) {
+    if table::is_sound(s, memory) {
         let n = ask(s, q, places);
         if n != 0 {
             return refuse(n);
