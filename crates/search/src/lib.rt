@@ -102,8 +102,9 @@ fn bound(kept: usize, most: usize) -> u8
 
 // ---- the list
 
-// Lists a start, and the next ones as long as the slot behind the block before has a state, behind the n numbers of a list that has room
-// for `wanted`; how many it holds then.
+// Lists a start behind the n numbers of a list, and the next ones as long as the slot behind the block has a state, up to `wanted` in all; how
+// many numbers the list holds then. With a free slot behind it a free block is followed by a free one, and with a reusable slot behind it one of
+// level 1 by one of level 1.
 fn list_while(states: &[u8], q: Query, list: &mut [u32], n: usize, start: u32, state: u8) -> usize
     requires { ⌜ (q .lo ≤ start) × (start ≤ q .hi) × (q .hi ≤ 1000000000) × (q .length ≤ 32) × (q .hi + q .length < q .lo + length (now states)) ⌝ }
     requires { ⌜ (n < q .wanted) × (q .wanted ≤ length (now list)) ⌝ }

@@ -211,18 +211,22 @@ pub fn at_the_ends_of_time(pair: &mut Pair) -> Verdict {
     seen.at_least(100, &[seen.past])
 }
 
-/// Windows of sizes about those at which a search may change its ways, to the
-/// largest: all held but for one start, which is the first, some, or the last.
+/// Windows of so many slots as a search may change its ways at, and one fewer or
+/// more, to the largest: all held but for one start, the first, some, or the last.
 pub fn of_each_size(pair: &mut Pair) -> Verdict {
     let mut draw = Draw::from_seed(405);
     let mut searches = Searches::of(pair);
-    let sizes = [1, 2, 16, 17, 32, 33]
+    let edges = [32, 160, 1_120, 4_576];
+    let sizes = edges
         .into_iter()
-        .chain(127..=131)
-        .chain(4_543..=4_547)
-        .chain([LONGEST_M1]);
-    for starts in sizes {
+        .flat_map(|edge| [edge - 1, edge, edge + 1])
+        .chain([1, 2, 16, 17, LONGEST_M1, LONGEST_M1 + 31]);
+    for slots in sizes {
         for length in [1, 17, 32] {
+            let starts = (slots + 1).saturating_sub(length);
+            if !(1..=LONGEST_M1).contains(&starts) {
+                continue;
+            }
             let lo = draw.below(LATEST - 2 * LONGEST_M1);
             let wish = range(lo, starts, length);
             let mut compare = |records| searches.compare(LONGEST_M1, records, wish);
