@@ -336,7 +336,8 @@ GEMTHATCH_MUST_USE uint32_t gemthatch_slot_state(const uint8_t *memory, size_t o
  * To reserve a start that was found, bs is start - now, so only starts in now + 2 .. now + 255 can be reserved: choose lo and hi
  * accordingly.
  * The slots from lo on are worked out record by record: on a full table a search of a hundred starts takes some ten microseconds, up to
- * forty where every record has 60 blocks to a superframe, and one of a whole superframe up to two hundred.
+ * forty where every record has 60 blocks to a superframe, and one of a whole superframe up to two hundred. In superframes of less than
+ * 1,920 slots, where such blocks may lie a few slots apart, it is up to a millisecond and a half.
  * A search needs at most GEMTHATCH_SEARCH_STACK octets of stack, which a thread with a small one has to have left.
  * Returns the number found, 1..wanted. Refused, in this order: 11, 19, 9 length, 20, 1 list shorter than wanted, 21 none found.
  */
