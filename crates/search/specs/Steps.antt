@@ -54,6 +54,6 @@ pub record Filled (places most : ℕ) (xs : List ℕ) (n : ℕ) (list : List ℕ
 abbrev pub ListedOn : ℕ → ℕ → ℕ → ℕ → ℕ → List ℕ → List ℕ → Type 0
 ListedOn places most start n m list after = (xs : List ℕ) → Filled places most xs n list → Filled places most (xs ++ from start (m - n)) m after
 
--- the slot behind the block has an octet, at each start from one up to the last before another
+-- the slot behind the block has an octet, at each start from one on but the last below another
 abbrev pub BehindAre : List ℕ → Query → ℕ → ℕ → ℕ → Type 0
 BehindAre xs q x start end = (s : ℕ) → start ≤ s → s + 1 < end → getD xs (s - q .lo + q .length) 0 ≡ x

@@ -227,6 +227,14 @@ fn after(s: Series, n: u64) -> Series
     }
 }
 
+// How many slots there are from the start of its first block to the end of its last.
+fn run_of(s: Series) -> u64
+    requires { ⌜ (0 < s .blocks) × (s .blocks ≤ 255) × (s .spacing ≤ 4294967295) × (s .length ≤ 255) ⌝ }
+    ensures { λ r. ⌜ (r ≡ (s .blocks - 1) * s .spacing + s .length) × (r ≤ 1095216660480) ⌝ }
+{
+    times(s.blocks - 1, s.spacing) + s.length
+}
+
 // How many of its blocks are left out, as they are over before lo. Not all are.
 fn skipped(lo: u64, s: Series) -> u64
     requires { ⌜ (s .length < s .spacing) × (0 < s .blocks) × (lo < s .start + s .blocks * s .spacing) ⌝ }
@@ -274,8 +282,7 @@ fn mark_apart(out: &mut [u8], lo: u64, end: u64, s: Series, mark: u8, width: u8)
     requires { ⌜ Small s × (0 < s .blocks) × (s .length < s .spacing) × (s .length ≤ width) × (width ≤ 32) × (lo < s .start + (s .blocks - 1) * s .spacing + s .length) × WindowFits lo end (now out) × (mark ≤ 2) ⌝ }
     ensures { λ _. ⌜ MarkedWhere (end - lo) mark (λ i. holds s (lo + i)) (now (out .entry)) (now (out .exit)) ⌝ }
 {
-    let run = times(s.blocks - 1, s.spacing) + s.length;
-    let stop = lesser(s.start + run, end);
+    let stop = lesser(s.start + run_of(s), end);
     let left = mark_begun(out, lo, s, mark, width);
     mark_ahead(out, lo, stop, left, mark, width);
 }
@@ -285,8 +292,7 @@ fn mark_superframe(out: &mut [u8], lo: u64, end: u64, s: Series, mark: u8)
     requires { ⌜ Small s × (0 < s .blocks) × (s .length < s .spacing) × (s .length ≤ 32) × WindowFits lo end (now out) × (mark ≤ 2) ⌝ }
     ensures { λ _. ⌜ MarkedWhere (end - lo) mark (λ i. holds s (lo + i)) (now (out .entry)) (now (out .exit)) ⌝ }
 {
-    let run = times(s.blocks - 1, s.spacing) + s.length;
-    if s.start + run <= lo {
+    if s.start + run_of(s) <= lo {
         return;
     }
     if s.length <= 16 {
@@ -344,14 +350,7 @@ fn mark_any(out: &mut [u8], lo: u64, end: u64, s: Series, mark: u8)
     ensures { λ _. ⌜ MarkedWhere (end - lo) mark (λ i. holds s (lo + i)) (now (out .entry)) (now (out .exit)) ⌝ }
 {
     if s.spacing <= s.length {
-        mark_block(
-            out,
-            lo,
-            end,
-            s.start,
-            times(s.blocks - 1, s.spacing) + s.length,
-            mark,
-        );
+        mark_block(out, lo, end, s.start, run_of(s), mark);
         return;
     }
     mark_each(out, lo, end, s, mark);
@@ -386,13 +385,13 @@ fn mark_any_superframes(
 }
 
 // Marks a series of blocks in so many superframes of m1 slots. One that starts past the end or is over before lo is left by one test, as its end
-// is ahead of lo by more than both are wide, or behind it: apart, the first of two tests would often be guessed wrong. Blocks that touch, or of
+// is ahead of lo by no less than both are wide, or behind it: apart, the first of two tests would often be guessed wrong. Blocks that touch, or of
 // more than 32 slots, which no sound table has, go a way of their own.
 fn mark_series(out: &mut [u8], lo: u64, end: u64, m1: u64, superframes: u64, s: Series, mark: u8)
     requires { ⌜ WindowFits lo end (now out) × (m1 ≤ 4294967295) × (0 < superframes) × (superframes ≤ 255) × (s .start ≤ 4294967295) × (s .spacing ≤ 4294967295) × (0 < s .blocks) × (s .blocks ≤ 255) × (s .length ≤ 255) × (mark ≤ 2) ⌝ }
     ensures { λ _. ⌜ MarkedWhere (end - lo) mark (λ i. holdsIn m1 superframes s (lo + i)) (now (out .entry)) (now (out .exit)) ⌝ }
 {
-    let width = times(superframes - 1, m1) + times(s.blocks - 1, s.spacing) + s.length;
+    let width = times(superframes - 1, m1) + run_of(s);
     if end - lo + width <= ahead_of(s.start + width, lo) {
         return;
     }

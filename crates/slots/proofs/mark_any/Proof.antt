@@ -9,14 +9,8 @@ use Rattle.slots.proofs.Blocks.{holds-all}
 use Rattle.slots.proofs.mark_any.Statement.{statement}
 use Rattle.slots.proofs.mark_any.Tie as tie
 
-sub-times : tie.Need-sub-times
-sub-times c = search needs
-
-times-requires : tie.Need-times-requires
-times-requires c κs = search needs
-
-add-mark-block : tie.Need-add-mark-block
-add-mark-block c = search needs
+run-of-requires : tie.Need-run-of-requires
+run-of-requires c κs = search needs
 
 mark-block-requires : tie.Need-mark-block-requires
 mark-block-requires c κs = search needs
@@ -27,12 +21,12 @@ same-length c = search needs
 returns : tie.Need-returns
 returns c =
     let x = c .before .before in
-    let t = x .before .before in
-    let f = t .before .before .before in
+    let t = x .before in
+    let f = t .before .before in
     let s = f .before .before .before in
     let a = s .args in
     marked-agree (λ i. holds (a .s) (a .lo + i)) (x .mark-block .ensures) (λ i _.
-    ap (λ (n : ℕ). inBlock (a .s .start) (n + a .s .length) (a .lo + i)) (t .times .ensures .0)
+    ap (λ (n : ℕ). inBlock (a .s .start) n (a .lo + i)) (t .run-of .ensures .0)
     ∙ holds-all (a .s) (a .lo + i) (s .pre .2) (f .if1 .taken))
 
 mark-each-requires : tie.Need-mark-each-requires
@@ -48,9 +42,7 @@ pub mark-any-spec : {M : Type 1} → statement M
 mark-any-spec =
     tie.close
     (tie.spec
-    sub-times
-    times-requires
-    add-mark-block
+    run-of-requires
     mark-block-requires
     same-length
     returns

@@ -13,20 +13,14 @@ use Rattle.slots.proofs.mark_apart.Tie as tie
 abbrev stop : tie.After-mark-begun → tie.After-lesser
 stop b = b .before .before
 
-abbrev last : tie.After-lesser → tie.After-times
-last l = l .before .before .before
+abbrev run : tie.After-lesser → tie.After-run-of
+run l = l .before .before
 
-abbrev entry : tie.After-times → tie.Start
-entry t = t .before .before .before
+abbrev entry : tie.After-run-of → tie.Start
+entry t = t .before .before
 
-sub-times : tie.Need-sub-times
-sub-times c = search needs
-
-times-requires : tie.Need-times-requires
-times-requires c κs = search needs
-
-add-run : tie.Need-add-run
-add-run c = search needs
+run-of-requires : tie.Need-run-of-requires
+run-of-requires c κs = search needs
 
 add-lesser : tie.Need-add-lesser
 add-lesser c = search needs
@@ -36,7 +30,7 @@ lesser-requires c κs = search needs
 
 mark-begun-requires : tie.Need-mark-begun-requires
 mark-begun-requires c κs =
-    let s = entry (last (c .before)) in
+    let s = entry (run (c .before)) in
     let pre = s .pre in (
       pre .0,
       pre .1,
@@ -52,17 +46,17 @@ mark-ahead-requires : tie.Need-mark-ahead-requires
 mark-ahead-requires c κs =
     let b = c .before .before .before in
     let l = stop b in
-    let t = last l in
+    let t = run l in
     let s = entry t in
     let pre = s .pre in
     let left = b .mark-begun .ensures .0 in (
       left .small,
       left .ahead,
-      omega (arith, l .lesser .ensures, t .times .ensures .0, pre .5, pre .6 .ahead),
+      omega (arith, l .lesser .ensures, t .run-of .ensures .0, pre .5, pre .6 .ahead),
       rw (left .long, left .spaced) (pre .2),
       rw (left .long) (pre .3),
       pre .4,
-      rw (left .spaced) (omega (arith, l .lesser .ensures, t .times .ensures .0, left .ends, pre .2, blocks-last (s .args .s) (pre .1))),
+      rw (left .spaced) (omega (arith, l .lesser .ensures, t .run-of .ensures .0, left .ends, pre .2, blocks-last (s .args .s) (pre .1))),
       omega (arith, l .lesser .ensures, pre .6 .behind, b .mark-begun .kept .0),
       pre .7,
     )
@@ -75,13 +69,13 @@ returns c =
     let x = c .before .before in
     let b = x .before .before .before .before in
     let l = stop b in
-    let t = last l in
+    let t = run l in
     let s = entry t in
     let a = s .args in
     let fits = s .pre .6 in
     let r = b .mark-begun .result in
     let left = b .mark-begun .ensures .0 in
-    let stops = l .lesser .ensures ∙ ap (λ (n : ℕ). min (a .s .start + (n + a .s .length)) (a .end)) (t .times .ensures .0) in
+    let stops = l .lesser .ensures ∙ ap (λ (n : ℕ). min (a .s .start + n) (a .end)) (t .run-of .ensures .0) in
     marked-agree (λ i. holds (a .s) (a .lo + i))
     (marked-more (marked-within (a .end - a .lo) (b .mark-begun .ensures .1) (omega (arith, fits .behind))) (marked-within (a .end - a .lo) (x .mark-ahead .ensures) (omega (arith, fits .behind, b .mark-begun .kept .0)))) (λ i f.
     ap (λ (h : Bool). firstHold (a .s) (a .s .blocks - r .blocks) (a .lo + i) || h) (left-before (a .lo) (a .end) (l .lesser .result) (a .s) r (a .lo + i) left (s .pre .1) stops (omega arith))
@@ -91,9 +85,7 @@ pub mark-apart-spec : {M : Type 1} → statement M
 mark-apart-spec =
     tie.close
     (tie.spec
-    sub-times
-    times-requires
-    add-run
+    run-of-requires
     add-lesser
     lesser-requires
     mark-begun-requires

@@ -13,7 +13,7 @@ use Rattle.slots.proofs.mark_series.Statement.{statement}
 use Rattle.slots.proofs.mark_series.Tie as tie
 
 abbrev entry : tie.Else1 → tie.Start
-entry c = c .before .before .before .before .before .before .before .before
+entry c = c .before .before .before .before .before .before
 
 sub-times : tie.Need-sub-times
 sub-times c = search needs
@@ -21,17 +21,11 @@ sub-times c = search needs
 times-requires : tie.Need-times-requires
 times-requires c κs = search needs
 
-sub-times-2 : tie.Need-sub-times-2
-sub-times-2 c = search needs
-
-times-requires-2 : tie.Need-times-requires-2
-times-requires-2 c κs = search needs
+run-of-requires : tie.Need-run-of-requires
+run-of-requires c κs = search needs
 
 add-width : tie.Need-add-width
 add-width c = search needs
-
-add-width-2 : tie.Need-add-width-2
-add-width-2 c = search needs
 
 sub-if1 : tie.Need-sub-if1
 sub-if1 c = search needs
@@ -48,15 +42,15 @@ ahead-of-requires c κs = search needs
 returns : tie.Need-returns
 returns c =
     let x = c .before .ahead-of in
-    let t₂ = c .before .before .before .before in
-    let t₁ = t₂ .before .before in
-    let a = t₁ .before .before .args in
-    let past = a .s .start + (t₁ .times .result + t₂ .times2 .result + a .s .length) in
+    let run = c .before .before .before in
+    let t = run .before in
+    let a = t .before .before .args in
+    let past = a .s .start + (t .times .result + run .run-of .result) in
     marked-none (λ i. holdsIn (a .m1) (a .superframes) (a .s) (a .lo + i)) (now (a .out)) (λ i l.
     holdsIn-outside (a .s) (a .lo + i) (a .m1) (a .superframes) (λ e.
     by-test (leb (a .lo) past)
-    (λ b. omega (arith, t₁ .times .ensures .0, t₂ .times2 .ensures .0, c .if1 .taken, x .ensures (leb-true (a .lo) past b)))
-    (λ b. omega (arith, t₁ .times .ensures .0, t₂ .times2 .ensures .0, leb-false (a .lo) past b))))
+    (λ b. omega (arith, t .times .ensures .0, run .run-of .ensures .0, c .if1 .taken, x .ensures (leb-true (a .lo) past b)))
+    (λ b. omega (arith, t .times .ensures .0, run .run-of .ensures .0, leb-false (a .lo) past b))))
 
 mark-any-superframes-requires : tie.Need-mark-any-superframes-requires
 mark-any-superframes-requires c κs = search needs
@@ -88,10 +82,8 @@ mark-series-spec =
     (tie.spec
     sub-times
     times-requires
-    sub-times-2
-    times-requires-2
+    run-of-requires
     add-width
-    add-width-2
     sub-if1
     add-if1
     add-ahead-of

@@ -9,23 +9,17 @@ use Rattle.slots.proofs.Blocks.{holds-over}
 use Rattle.slots.proofs.mark_superframe.Statement.{statement}
 use Rattle.slots.proofs.mark_superframe.Tie as tie
 
-sub-times : tie.Need-sub-times
-sub-times c = search needs
-
-times-requires : tie.Need-times-requires
-times-requires c κs = search needs
-
-add-run : tie.Need-add-run
-add-run c = search needs
+run-of-requires : tie.Need-run-of-requires
+run-of-requires c κs = search needs
 
 add-if1 : tie.Need-add-if1
 add-if1 c = search needs
 
 returns : tie.Need-returns
 returns c =
-    let t = c .before .before .before in
-    let a = t .before .before .before .args in
-    marked-none (λ i. holds (a .s) (a .lo + i)) (now (a .out)) (λ i _. holds-over (a .s) (a .lo + i) (omega (arith, t .times .ensures .0, c .if1 .taken)))
+    let t = c .before .before in
+    let a = t .before .before .args in
+    marked-none (λ i. holds (a .s) (a .lo + i)) (now (a .out)) (λ i _. holds-over (a .s) (a .lo + i) (omega (arith, t .run-of .ensures .0, c .if1 .taken)))
 
 mark-apart-requires : tie.Need-mark-apart-requires
 mark-apart-requires c κs = search needs
@@ -49,9 +43,7 @@ pub mark-superframe-spec : {M : Type 1} → statement M
 mark-superframe-spec =
     tie.close
     (tie.spec
-    sub-times
-    times-requires
-    add-run
+    run-of-requires
     add-if1
     returns
     mark-apart-requires
