@@ -102,7 +102,7 @@ static void put_number(uint8_t *octets, uint32_t number)
 
 /* Logs a call that is asked of the recorded channel. What its operation does not use is 0. */
 static void log_call(const gemthatch_channel *channel, uint32_t operation, uint32_t rate, uint32_t superframes, uint32_t length,
-                     uint32_t station, uint32_t slot, uint32_t miles, uint32_t limit_miles)
+                     uint32_t station, uint32_t slot, uint32_t miles, uint32_t limit_miles, int32_t bo)
 {
     uint8_t *entry;
     if (channel != recorded)
@@ -120,26 +120,26 @@ static void log_call(const gemthatch_channel *channel, uint32_t operation, uint3
     put_number(entry + 8, slot);
     put_number(entry + 12, miles);
     put_number(entry + 16, limit_miles);
-    put_number(entry + 20, 0u);
+    put_number(entry + 20, (uint8_t)bo);
     logged = logged + 1u;
 }
 
 static uint32_t set_clock(gemthatch_channel *channel, uint32_t slot)
 {
-    log_call(channel, GEMTHATCH_OPERATION_CLOCK, 0u, 0u, 0u, 0u, slot, 0u, 0u);
+    log_call(channel, GEMTHATCH_OPERATION_CLOCK, 0u, 0u, 0u, 0u, slot, 0u, 0u, 0);
     return counted(gemthatch_channel_clock(channel, slot));
 }
 
 /* A log has whole miles, and no offsets: what is logged of an offset is its length. */
 static uint32_t set_offset(gemthatch_channel *channel, uint32_t station, double east, double north, uint32_t miles)
 {
-    log_call(channel, GEMTHATCH_OPERATION_DISTANCE, 0u, 0u, 0u, station, 0u, miles, (uint32_t)limit);
+    log_call(channel, GEMTHATCH_OPERATION_DISTANCE, 0u, 0u, 0u, station, 0u, miles, (uint32_t)limit, 0);
     return counted(gemthatch_channel_distance(channel, station, GEMTHATCH_KIND_OFFSET, east, north, limit));
 }
 
 static uint32_t wipe(gemthatch_channel *channel, uint32_t station)
 {
-    log_call(channel, GEMTHATCH_OPERATION_WIPE, 0u, 0u, 0u, station, 0u, 0u, 0u);
+    log_call(channel, GEMTHATCH_OPERATION_WIPE, 0u, 0u, 0u, station, 0u, 0u, 0u, 0);
     return counted(gemthatch_channel_wipe(channel, station));
 }
 
@@ -151,9 +151,9 @@ static void show(const char *name, const gemthatch_channel *channel)
     printf("  a walk over %s: M1 %u, now %u, records: %u\n", name, (unsigned)channel->m1, (unsigned)channel->now,
            (unsigned)channel->count);
     for (i = 0; (place = gemthatch_channel_record_at(channel, i)).handed; i++)
-        printf("    station %u, first slot %u, rate %u, superframes %u, length %u, %s\n", (unsigned)place.record.station,
+        printf("    station %u, first slot %u, rate %u, superframes %u, length %u, %s, block offset %d\n", (unsigned)place.record.station,
                (unsigned)place.record.first, (unsigned)place.record.rate, (unsigned)place.record.superframes,
-               (unsigned)place.record.length, place.record.far ? "far" : "not far");
+               (unsigned)place.record.length, place.record.far ? "far" : "not far", place.record.bo);
     count_call(place.refusal);
     expect(place.refusal == GEMTHATCH_ACCEPTED && i == channel->count, "a walk hands out every record, and then no more");
 }
@@ -168,12 +168,12 @@ static void show_octets(const gemthatch_channel *channel)
                i % GEMTHATCH_RECORD_OCTETS == GEMTHATCH_RECORD_OCTETS - 1 ? "\n" : "");
 }
 
-/* Whether a place has a station's record as the bursts below ask for it: rate 4, blocks of 5 slots. */
+/* Whether a place has a station's record as the bursts below ask for it: rate 4, blocks of 5 slots, block offset -2. */
 static int holds(gemthatch_place place, uint32_t station, uint32_t first, uint32_t superframes, uint32_t far)
 {
     const gemthatch_record record = place.record;
     return place.handed == 1u && record.station == station && record.first == first && record.rate == 4u &&
-           record.superframes == superframes && record.length == 5u && record.far == far;
+           record.superframes == superframes && record.length == 5u && record.far == far && record.bo == -2;
 }
 
 /* Whether no record is the station's. A table that is refused hands out none, and says nothing about it. */
@@ -194,7 +194,8 @@ static gemthatch_block show_burst(const uint8_t *octets)
     const gemthatch_block block = read.block;
     count_call(read.refusal);
     expect(read.refusal == GEMTHATCH_ACCEPTED, "the burst is read");
-    printf("  blocks of %u slots, rate code %u, block start %u; ", (unsigned)(block.blg + 1u), (unsigned)block.br, (unsigned)block.bs);
+    printf("  blocks of %u slots, rate code %u, block start %u, block offset %d; ", (unsigned)(block.blg + 1u), (unsigned)block.br,
+           (unsigned)block.bs, (int)block.bo);
     if (block.destination == GEMTHATCH_DESTINATION_NO_REBROADCAST)
         printf("no re-broadcast, the information field ends in %02x %02x %02x\n", block.information[0], block.information[1],
                block.information[2]);
@@ -224,15 +225,15 @@ static uint32_t take_burst(gemthatch_channel *channel, uint32_t station, const u
     if (rate >= GEMTHATCH_REFUSED)
         return rate;
     log_call(channel, GEMTHATCH_OPERATION_RESERVE, rate, superframes, read.block.blg + 1u, station, read.block.bs, GEMTHATCH_ENTRY_UNKNOWN,
-             (uint32_t)limit);
-    return counted(gemthatch_channel_reserve(channel, station, rate, superframes, read.block.bs, read.block.blg + 1u,
+             (uint32_t)limit, read.block.bo);
+    return counted(gemthatch_channel_reserve(channel, station, rate, superframes, read.block.bs, read.block.blg + 1u, read.block.bo,
                                              GEMTHATCH_KIND_UNKNOWN, 0.0, 0.0, limit));
 }
 
 /* One slot, bs slots from now. */
 static uint32_t reserve_one(gemthatch_channel *channel, uint32_t station, uint32_t bs)
 {
-    return counted(gemthatch_channel_reserve(channel, station, 1u, 1u, bs, 1u, GEMTHATCH_KIND_UNKNOWN, 0.0, 0.0, limit));
+    return counted(gemthatch_channel_reserve(channel, station, 1u, 1u, bs, 1u, 0, GEMTHATCH_KIND_UNKNOWN, 0.0, 0.0, limit));
 }
 
 /* Replays the log on a channel: of each log record its place, and how it went. */
@@ -272,7 +273,8 @@ static uint32_t place_block(const char *name, const gemthatch_channel *channel, 
 int main(void)
 {
     static uint8_t memories[5][OCTETS];
-    /* 00 00 01 20 02 03 05 FE 12: destination 1, blocks of 5 slots, rate code 3, block start 5; and the same with block start 1. */
+    /* 00 00 01 20 02 03 05 FE 12: destination 1, blocks of 5 slots, rate code 3, block start 5, block offset -2; and the same with block
+       start 1. */
     static const uint8_t burst[GEMTHATCH_BURST_OCTETS] = { 0x00, 0x00, 0x01, 0x20, 0x02, 0x03, 0x05, 0xFE, 0x12 };
     static const uint8_t noise[GEMTHATCH_BURST_OCTETS] = { 0x00, 0x00, 0x01, 0x20, 0x02, 0x03, 0x01, 0xFE, 0x12 };
     /* 41 54 43 20 05 03 05 FE 12: the same blocks with a re-broadcast offset that equals the block start, and text in front. */
@@ -328,9 +330,11 @@ int main(void)
     answer = told("Birch: a burst with bs 1", take_burst(&birch, visitor, noise, 2u), NULL);
     expect_refused(answer, GEMTHATCH_REFUSED_BS, "bs 1 is refused");
 
-    printf("\nAlder: the visitor has slots 105..109, and so every 1125 slots on\n");
+    printf("\nAlder: the visitor has slots 105..109, and so every 1125 slots on; after two superframes its blocks move back by 2\n");
     expect(told_slot(&alder, 104u) == GEMTHATCH_FREE, "no block has 104");
     expect(told_slot(&alder, 105u) == GEMTHATCH_TAKEN, "105 is the first block's");
+    expect(told_slot(&alder, 9103u) == GEMTHATCH_TAKEN, "9103 is the first one's that moved");
+    expect(told_slot(&alder, 9108u) == GEMTHATCH_FREE, "which is over at 9107");
     answer = place_block("Alder", &alder, 105u, 111u, 2u, 4710u);
     expect(answer == 110u, "110 and 111 are free, and 4710 mod 2 is 0");
 
@@ -368,8 +372,8 @@ int main(void)
     expect(answer == 2u, "it has two records");
     (void)told("Birch: the visitor, 7003", take_burst(&birch, visitor, burst, 3u), NULL);
     (void)told("the twin: the visitor, 7003", take_burst(&twin, visitor, burst, 3u), NULL);
-    (void)told("Birch's clock, slot 9000", set_clock(&birch, 9000u), "records over");
-    (void)told("the twin's clock, slot 9000", set_clock(&twin, 9000u), "records over");
+    (void)told("Birch's clock, slot 13000", set_clock(&birch, 13000u), "records over");
+    (void)told("the twin's clock, slot 13000", set_clock(&twin, 13000u), "records over");
     show("Birch", &birch);
     expect(holds(gemthatch_channel_record_at(&birch, 0u), tenant, 105u, 3u, 1u), "the tenant's record comes first, and is far");
     expect(holds(gemthatch_channel_record_at(&birch, 1u), visitor, 5005u, 3u, 0u), "then the visitor's, which is not far");
@@ -397,7 +401,7 @@ int main(void)
     expect(memcmp(memories[4], memories[1], OCTETS) == 0, "the octets are Birch's");
 
     printf("\nThe worker's list, lent once more\n");
-    answer = counted(gemthatch_channel_search(&birch, 9000u, 9100u, 5u, GEMTHATCH_WANTED_MAX, scratch, sizeof scratch - 1u));
+    answer = counted(gemthatch_channel_search(&birch, 13000u, 13100u, 5u, GEMTHATCH_WANTED_MAX, scratch, sizeof scratch - 1u));
     (void)told("a search with a list too short", answer, "found");
     expect_refused(answer, GEMTHATCH_REFUSED_SIZE, "fifteen places and three octets are too few");
     expect(all_zero(scratch, sizeof scratch), "the scratch list holds no slot of anybody");

@@ -55,7 +55,7 @@ extern "C" {
 
 #define GEMTHATCH_BURST_OCTETS 9u           /* a superframe block reservation, n-10 to n-2 of the burst; n is its last octet */
 #define GEMTHATCH_RATES 16u                 /* entries of a rate list, one for each code */
-#define GEMTHATCH_RECORD_OCTETS 12u         /* a record of the table */
+#define GEMTHATCH_RECORD_OCTETS 16u         /* a record of the table */
 #define GEMTHATCH_RECORDS_MAX 2048u         /* records of a table, at least 1 */
 #define GEMTHATCH_MEMORY_MAX (GEMTHATCH_RECORDS_MAX * GEMTHATCH_RECORD_OCTETS)
 #define GEMTHATCH_ENTRY_OCTETS 24u          /* a log record */
@@ -73,6 +73,7 @@ extern "C" {
 #define GEMTHATCH_LENGTH_MAX 32u            /* slots in a block, at least 1 */
 #define GEMTHATCH_BS_MIN 2u                 /* slots from now to the first block */
 #define GEMTHATCH_BS_MAX 255u
+#define GEMTHATCH_BO_MAX 127                /* slots that a block offset moves the further superframe of blocks, on or back */
 #define GEMTHATCH_MILES_MAX 4096.0          /* a range, or a part of an offset, beyond this is never far; also the highest reuse limit */
 #define GEMTHATCH_LIMIT_DEFAULT 150.0       /* the technical manual's default reuse limit, its Q2a */
 #define GEMTHATCH_TALLY_MAX 4294967295u     /* where each count of a tally stops */
@@ -101,7 +102,7 @@ enum gemthatch_refusal {
     GEMTHATCH_REFUSED_LATE = 13,           /* clock, or slot asked about, above 1,000,000,000 */
     GEMTHATCH_REFUSED_RATE = 14,           /* rate 0 or above 60 */
     GEMTHATCH_REFUSED_NO_SUPERFRAMES = 15, /* superframes 0 */
-    GEMTHATCH_REFUSED_HELD = 16,           /* same station, first slot, rate, superframes and length already held */
+    GEMTHATCH_REFUSED_HELD = 16,           /* same station, first slot, rate, superframes, length and bo already held */
     GEMTHATCH_REFUSED_FULL = 17,           /* as many records as the memory has room for */
     GEMTHATCH_REFUSED_LIMIT = 18,          /* reuse limit NaN or outside 0..4096 */
     GEMTHATCH_REFUSED_SEARCH_RANGE = 19,   /* lo before now, lo above hi, hi above 1,000,000,000, or hi - lo at least M1 */
@@ -109,6 +110,7 @@ enum gemthatch_refusal {
     GEMTHATCH_REFUSED_NONE = 21,           /* no start in the range has a block without a taken slot */
     GEMTHATCH_REFUSED_PARAMETER = 22,      /* parameter number not 1..3 */
     GEMTHATCH_REFUSED_ENTRY = 23,          /* a log record not 24 octets, its operation not 1..4, or what that doesn't use not 0 */
+    GEMTHATCH_REFUSED_EARLY = 24,          /* the further superframe of blocks, which bo calls for, would begin before now */
     GEMTHATCH_REFUSED_DESTINATION = 34     /* an address with roff equal to bs, or no re-broadcast with roff not equal to bs */
 };
 
@@ -146,6 +148,7 @@ static inline const char *gemthatch_refusal_text(uint32_t refusal)
     case GEMTHATCH_REFUSED_NONE: return "no block to use";
     case GEMTHATCH_REFUSED_PARAMETER: return "no such parameter";
     case GEMTHATCH_REFUSED_ENTRY: return "no log record";
+    case GEMTHATCH_REFUSED_EARLY: return "further blocks before now";
     case GEMTHATCH_REFUSED_DESTINATION: return "destination does not go with roff and bs";
     default: return "no refusal of this library";
     }
@@ -171,7 +174,7 @@ typedef struct gemthatch_block {
     uint32_t roff;          /* re-broadcast offset, 2..255 */
     uint32_t br;            /* block repeat rate code, 0..13 without 7 */
     uint32_t bs;            /* block start, 2..255 */
-    int32_t bo;             /* block offset, -127..127; it moves no block */
+    int32_t bo;             /* block offset, -127..127: where the blocks move next */
     uint32_t bt;            /* 0..3 */
 } gemthatch_block;
 
@@ -227,10 +230,13 @@ GEMTHATCH_MUST_USE uint32_t gemthatch_parameter(uint32_t number, uint32_t figure
  * they were (but for a refused opening, which empties the state).
  *
  * A record reserves, for k below superframes and j below rate, the `length` slots from first + k*M1 + j*(M1/rate), the division's
- * remainder dropped. It is over when its last slot is before now.
+ * remainder dropped. Where its block offset bo isn't 0 it reserves one further superframe of blocks, the `length` slots from
+ * first + superframes*M1 + bo + j*(M1/rate): those of the superframe that comes next, moved on or back by bo. They may lie over the others,
+ * and where M1 is 60 or 120 before them too. A record is over when the last slot of all its blocks is before now.
  *
  * Every call on a table first tests it whole, and refuses it with 11 where it is not sound: memory of a right size, M1 fits, now at most
- * 1,000,000,000, count at most the capacity, every record's fields in their ranges and not over, all octets after the records 0.
+ * 1,000,000,000, count at most the capacity, every record's fields in their ranges, its three zeros 0, none of its blocks before slot 0, and
+ * not over, all octets after the records 0.
  */
 
 /*
@@ -254,16 +260,16 @@ enum gemthatch_kind {
 };
 
 /*
- * Adds one record at the end: station, first slot now + bs, rate, superframes, length, and whether the station is far. A range is far if
- * limit <= a <= 4096; an offset if both parts lie in -4096..4096 and a*a + b*b >= limit*limit. Unknown and NaN are never far.
- * From a burst that was read: rate is gemthatch_rate of br, bs is bs, length is blg + 1. The station is the one that sent it, not d;
- * superframes is the host's to say, not bt.
+ * Adds one record at the end: station, first slot now + bs, rate, superframes, length, block offset bo, and whether the station is far. A
+ * range is far if limit <= a <= 4096; an offset if both parts lie in -4096..4096 and a*a + b*b >= limit*limit. Unknown and NaN are never far.
+ * From a burst that was read: rate is gemthatch_rate of br, bs is bs, length is blg + 1, bo is bo. The station is the one that sent it, not
+ * d; superframes is the host's to say, not bt.
  * Next state: m1, now, count + 1.
- * Returns 0. Refused, in this order: 11, 8, 14, 15, 9 superframes or length, 5, 18, 16, 17.
+ * Returns 0. Refused, in this order: 11, 8, 14, 15, 9 superframes or length, 5, 6, 24, 18, 16, 17.
  */
 GEMTHATCH_MUST_USE uint32_t gemthatch_reserve(uint8_t *memory, size_t octets, uint32_t m1, uint32_t now, uint32_t count, uint32_t station,
-                                              uint32_t rate, uint32_t superframes, uint32_t bs, uint32_t length, uint32_t kind, double a,
-                                              double b, double limit);
+                                              uint32_t rate, uint32_t superframes, uint32_t bs, uint32_t length, int32_t bo,
+                                              uint32_t kind, double a, double b, double limit);
 
 /*
  * Says anew whether a station is far, in all its records. The state stays.
@@ -302,7 +308,8 @@ enum gemthatch_operation {
  *     8 to 11     slot, or bs
  *     12 to 15    distance in whole nautical miles
  *     16 to 19    reuse limit in whole nautical miles
- *     20 to 23    0
+ *     20          bo, in two's complement
+ *     21 to 23    0
  *
  * Fields that its operation does not use are 0. The memory is left, and the number returned, as by the call. The next state is formed as
  * the call says; the answer alone does not tell which call that is, so this takes the log record's operation, and of a clock its slot:
@@ -359,7 +366,7 @@ GEMTHATCH_MUST_USE uint32_t gemthatch_pick(uint32_t n, uint32_t r);
 
 /* ---- the walk ----------------------------------------------------------------------------------------------------------------------- */
 
-/* A record of the table. */
+/* A record of the table: no struct has a gap here, so records may be compared by their octets. */
 typedef struct gemthatch_record {
     uint32_t station;    /* address, below 2^27 */
     uint32_t first;      /* first slot, at most 1,000,000,255 */
@@ -367,6 +374,8 @@ typedef struct gemthatch_record {
     uint8_t superframes; /* 1..3 */
     uint8_t length;      /* slots in a block, 1..32 */
     uint8_t far;         /* 1 where the station is far, otherwise 0 */
+    int8_t bo;           /* block offset, -127..127 */
+    uint8_t zeros[3];    /* 0 */
 } gemthatch_record;
 
 /* What a walk hands out at a place. */
@@ -456,11 +465,11 @@ GEMTHATCH_MUST_USE static inline uint32_t gemthatch_channel_clock(gemthatch_chan
 }
 
 GEMTHATCH_MUST_USE static inline uint32_t gemthatch_channel_reserve(gemthatch_channel *channel, uint32_t station, uint32_t rate,
-                                                                    uint32_t superframes, uint32_t bs, uint32_t length, uint32_t kind,
-                                                                    double a, double b, double limit)
+                                                                    uint32_t superframes, uint32_t bs, uint32_t length, int32_t bo,
+                                                                    uint32_t kind, double a, double b, double limit)
 {
     const uint32_t answer = gemthatch_reserve(channel->memory, channel->octets, channel->m1, channel->now, channel->count, station, rate,
-                                              superframes, bs, length, kind, a, b, limit);
+                                              superframes, bs, length, bo, kind, a, b, limit);
     if (answer < GEMTHATCH_REFUSED)
         channel->count += 1u;
     return answer;

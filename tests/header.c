@@ -30,15 +30,16 @@ static void open_channel(size_t records)
 }
 
 /* A reserve that is accepted but for what is asked of it. */
-static uint32_t reserve(uint32_t station, uint32_t rate, uint32_t superframes, uint32_t bs, uint32_t length, double limit)
+static uint32_t reserve(uint32_t station, uint32_t rate, uint32_t superframes, uint32_t bs, uint32_t length, int32_t bo, double limit)
 {
-    return gemthatch_channel_reserve(&channel, station, rate, superframes, bs, length, GEMTHATCH_KIND_UNKNOWN, 0.0, 0.0, limit);
+    return gemthatch_channel_reserve(&channel, station, rate, superframes, bs, length, bo, GEMTHATCH_KIND_UNKNOWN, 0.0, 0.0, limit);
 }
 
 /* The largest reservation that is accepted. */
 static uint32_t reserve_largest(double limit)
 {
-    return reserve(GEMTHATCH_STATION_MAX, GEMTHATCH_RATE_MAX, GEMTHATCH_SUPERFRAMES_MAX, GEMTHATCH_BS_MAX, GEMTHATCH_LENGTH_MAX, limit);
+    return reserve(GEMTHATCH_STATION_MAX, GEMTHATCH_RATE_MAX, GEMTHATCH_SUPERFRAMES_MAX, GEMTHATCH_BS_MAX, GEMTHATCH_LENGTH_MAX,
+                   GEMTHATCH_BO_MAX, limit);
 }
 
 /* A search from the last slot on. */
@@ -149,17 +150,19 @@ static void tables(void)
     open_channel(GEMTHATCH_RECORDS_MAX);
     check(channel.octets == GEMTHATCH_MEMORY_MAX && channel.m1 == GEMTHATCH_M1_DEFAULT, __LINE__);
     open_channel(2u);
-    REFUSES(reserve(GEMTHATCH_STATION_MAX + 1u, 1u, 1u, GEMTHATCH_BS_MIN, 1u, limit), ADDRESS);
-    REFUSES(reserve(0u, GEMTHATCH_RATE_MAX + 1u, 1u, GEMTHATCH_BS_MIN, 1u, limit), RATE);
-    REFUSES(reserve(0u, 1u, 0u, GEMTHATCH_BS_MIN, 1u, limit), NO_SUPERFRAMES);
-    REFUSES(reserve(0u, 1u, GEMTHATCH_SUPERFRAMES_MAX + 1u, GEMTHATCH_BS_MIN, 1u, limit), FIELD);
-    REFUSES(reserve(0u, 1u, 1u, GEMTHATCH_BS_MIN, GEMTHATCH_LENGTH_MAX + 1u, limit), FIELD);
-    REFUSES(reserve(0u, 1u, 1u, GEMTHATCH_BS_MAX + 1u, 1u, limit), BS);
-    REFUSES(reserve(0u, 1u, 1u, GEMTHATCH_BS_MIN, 1u, nextafter(GEMTHATCH_MILES_MAX, 5000.0)), LIMIT);
+    REFUSES(reserve(GEMTHATCH_STATION_MAX + 1u, 1u, 1u, GEMTHATCH_BS_MIN, 1u, 0, limit), ADDRESS);
+    REFUSES(reserve(0u, GEMTHATCH_RATE_MAX + 1u, 1u, GEMTHATCH_BS_MIN, 1u, 0, limit), RATE);
+    REFUSES(reserve(0u, 1u, 0u, GEMTHATCH_BS_MIN, 1u, 0, limit), NO_SUPERFRAMES);
+    REFUSES(reserve(0u, 1u, GEMTHATCH_SUPERFRAMES_MAX + 1u, GEMTHATCH_BS_MIN, 1u, 0, limit), FIELD);
+    REFUSES(reserve(0u, 1u, 1u, GEMTHATCH_BS_MIN, GEMTHATCH_LENGTH_MAX + 1u, 0, limit), FIELD);
+    REFUSES(reserve(0u, 1u, 1u, GEMTHATCH_BS_MAX + 1u, 1u, 0, limit), BS);
+    REFUSES(reserve(0u, 1u, 1u, GEMTHATCH_BS_MIN, 1u, GEMTHATCH_BO_MAX + 1, limit), BO);
+    REFUSES(reserve(0u, 1u, 1u, GEMTHATCH_BS_MIN, 1u, -GEMTHATCH_BO_MAX - 1, limit), BO);
+    REFUSES(reserve(0u, 1u, 1u, GEMTHATCH_BS_MIN, 1u, 0, nextafter(GEMTHATCH_MILES_MAX, 5000.0)), LIMIT);
     IS(reserve_largest(GEMTHATCH_MILES_MAX), 0u);
     REFUSES(reserve_largest(0.0), HELD);
-    IS(reserve(1u, 1u, 1u, GEMTHATCH_BS_MIN, 1u, limit), 0u);
-    REFUSES(reserve(2u, 1u, 1u, GEMTHATCH_BS_MIN, 1u, limit), FULL);
+    IS(reserve(1u, 1u, 1u, GEMTHATCH_BS_MIN, 1u, 0, limit), 0u);
+    REFUSES(reserve(2u, 1u, 1u, GEMTHATCH_BS_MIN, 1u, 0, limit), FULL);
     IS(channel.count, 2u);
     IS(gemthatch_channel_clock(&channel, 3u), 1u);
     check(channel.now == 3u && channel.count == 1u, __LINE__);
@@ -177,8 +180,32 @@ static void tables(void)
     IS(channel.count, 0u);
 }
 
-/* A log record: operation, rate, superframes, length, station, slot, distance, limit, and the zeros at its end. */
-static const uint8_t *entry_of(uint32_t operation, uint32_t series, uint32_t station, uint32_t slot, uint32_t distance, uint32_t limit)
+/* The further superframe of blocks: 24 on both sides, before the first block and over it, and where it moves the blocks to. */
+static void offsets(void)
+{
+    const double limit = GEMTHATCH_LIMIT_DEFAULT;
+    IS(gemthatch_channel_open(&channel, memory, 2u * GEMTHATCH_RECORD_OCTETS, GEMTHATCH_M1_MIN), 0u);
+    REFUSES(reserve(1u, 1u, 1u, GEMTHATCH_BS_MIN, 3u, -63, limit), EARLY);
+    IS(reserve(1u, 1u, 1u, GEMTHATCH_BS_MIN, 3u, -62, limit), 0u);
+    IS(gemthatch_channel_slot_state(&channel, 0u), (uint32_t)GEMTHATCH_TAKEN);
+    IS(gemthatch_channel_slot_state(&channel, 4u), (uint32_t)GEMTHATCH_TAKEN);
+    IS(gemthatch_channel_slot_state(&channel, 5u), (uint32_t)GEMTHATCH_FREE);
+    IS(gemthatch_channel_clock(&channel, 4u), 0u);
+    IS(gemthatch_channel_clock(&channel, 5u), 1u);
+    IS(gemthatch_channel_open(&channel, memory, 2u * GEMTHATCH_RECORD_OCTETS, GEMTHATCH_M1_DEFAULT), 0u);
+    IS(reserve(1u, 1u, 1u, GEMTHATCH_BS_MIN, 1u, GEMTHATCH_BO_MAX, limit), 0u);
+    IS(reserve(1u, 1u, 1u, GEMTHATCH_BS_MIN, 1u, -GEMTHATCH_BO_MAX, limit), 0u);
+    IS(gemthatch_channel_slot_state(&channel, 4375u), (uint32_t)GEMTHATCH_TAKEN);
+    IS(gemthatch_channel_slot_state(&channel, 4502u), (uint32_t)GEMTHATCH_FREE);
+    IS(gemthatch_channel_slot_state(&channel, 4629u), (uint32_t)GEMTHATCH_TAKEN);
+    IS(gemthatch_channel_clock(&channel, 4376u), 1u);
+    check(gemthatch_channel_record_at(&channel, 0u).record.bo == GEMTHATCH_BO_MAX, __LINE__);
+    memory[GEMTHATCH_RECORD_OCTETS - 1u] = 1; /* the last of the three zeros */
+    REFUSES(gemthatch_channel_wipe(&channel, 1u), NOT_SOUND);
+}
+
+/* A log record: operation, rate, superframes, length, station, slot, distance, limit, and behind them bo and the zeros at its end, all 0. */
+static uint8_t *entry_of(uint32_t operation, uint32_t series, uint32_t station, uint32_t slot, uint32_t distance, uint32_t limit)
 {
     static uint8_t entry[GEMTHATCH_ENTRY_OCTETS + 1u];
     const uint32_t numbers[6] = { operation | series << 8, station, slot, distance, limit, 0 };
@@ -193,6 +220,13 @@ static uint32_t step(const uint8_t *entry)
     return gemthatch_channel_replay_step(&channel, entry, GEMTHATCH_ENTRY_OCTETS);
 }
 
+/* The same with one octet more of it. */
+static uint32_t step_with(uint8_t *entry, size_t at, uint8_t octet)
+{
+    entry[at] = octet;
+    return step(entry);
+}
+
 /* A wipe that has so many octets. */
 static uint32_t wipe_of(size_t octets)
 {
@@ -204,6 +238,13 @@ static void log_records(void)
 {
     const uint32_t series = 0x050203u; /* rate 3, superframes 2, length 5 */
     uint8_t before[2u * GEMTHATCH_RECORD_OCTETS];
+    open_channel(2u);
+    REFUSES(step_with(entry_of(GEMTHATCH_OPERATION_RESERVE, series, 7u, GEMTHATCH_BS_MIN, 0u, 0u), 20u, 0x80), BO);
+    REFUSES(step_with(entry_of(GEMTHATCH_OPERATION_RESERVE, series, 7u, GEMTHATCH_BS_MIN, 0u, 0u), 21u, 1), ENTRY);
+    REFUSES(step_with(entry_of(GEMTHATCH_OPERATION_RESERVE, series, 7u, GEMTHATCH_BS_MIN, 0u, 0u), 23u, 1), ENTRY);
+    REFUSES(step_with(entry_of(GEMTHATCH_OPERATION_WIPE, 0u, 7u, 0u, 0u, 0u), 20u, 1), ENTRY);
+    IS(step_with(entry_of(GEMTHATCH_OPERATION_RESERVE, series, 7u, GEMTHATCH_BS_MIN, 0u, 0u), 20u, 0x81), 0u);
+    check(gemthatch_channel_record_at(&channel, 0u).record.bo == -GEMTHATCH_BO_MAX, __LINE__);
     open_channel(2u);
     IS(step(entry_of(GEMTHATCH_OPERATION_CLOCK, 0u, 0u, 0x01020304u, 0u, 0u)), 0u);
     check(channel.now == 0x01020304u && channel.count == 0u, __LINE__);
@@ -248,7 +289,7 @@ static void searches(void)
     REFUSES(search_last(GEMTHATCH_SLOT_MAX, 0u, 1u, sizeof list), FIELD);
     REFUSES(search_last(GEMTHATCH_SLOT_MAX, 1u, GEMTHATCH_WANTED_MAX + 1u, sizeof list), WANTED);
     REFUSES(search_last(GEMTHATCH_SLOT_MAX, 1u, 1u, GEMTHATCH_LIST_SLOT_OCTETS - 1u), SIZE);
-    IS(reserve(1u, 1u, 1u, GEMTHATCH_BS_MIN, GEMTHATCH_LENGTH_MAX, 0.0), 0u);
+    IS(reserve(1u, 1u, 1u, GEMTHATCH_BS_MIN, GEMTHATCH_LENGTH_MAX, 0, 0.0), 0u);
     REFUSES(search_last(GEMTHATCH_SLOT_MAX, 3u, 1u, sizeof list), NONE);
     IS(gemthatch_pick(GEMTHATCH_WANTED_MAX, 17u), 1u);
     REFUSES(gemthatch_pick(GEMTHATCH_WANTED_MAX + 1u, 17u), WANTED);
@@ -257,7 +298,7 @@ static void searches(void)
 /* There is no record at a place: the refusal, nothing handed out, and a record of zeros. */
 static int none_at(uint32_t i, uint32_t refusal)
 {
-    static const gemthatch_record zeros = { 0, 0, 0, 0, 0, 0 };
+    static const gemthatch_record zeros = { 0, 0, 0, 0, 0, 0, 0, { 0, 0, 0 } };
     const gemthatch_place place = gemthatch_channel_record_at(&channel, i);
     return place.refusal == refusal && place.handed == 0u && memcmp(&place.record, &zeros, sizeof zeros) == 0;
 }
@@ -271,22 +312,23 @@ static int record_at(uint32_t i, gemthatch_record record)
 static void walks(void)
 {
     const gemthatch_record largest = { GEMTHATCH_STATION_MAX, GEMTHATCH_SLOT_MAX + GEMTHATCH_BS_MAX, GEMTHATCH_RATE_MAX,
-                                       GEMTHATCH_SUPERFRAMES_MAX, GEMTHATCH_LENGTH_MAX, 0 };
-    const gemthatch_record other = { 0x04030201u, GEMTHATCH_SLOT_MAX + GEMTHATCH_BS_MIN, 4, 3, 2, 1 };
+                                       GEMTHATCH_SUPERFRAMES_MAX, GEMTHATCH_LENGTH_MAX, 0, GEMTHATCH_BO_MAX, { 0, 0, 0 } };
+    const gemthatch_record other = { 0x04030201u, GEMTHATCH_SLOT_MAX + GEMTHATCH_BS_MIN, 4, 3, 2, 1, -5, { 0, 0, 0 } };
     gemthatch_place place;
     uint32_t i;
     /* A record in C lies as in the table, and no struct has a gap. */
     check(sizeof(gemthatch_record) == GEMTHATCH_RECORD_OCTETS && offsetof(gemthatch_record, station) == 0u, __LINE__);
     check(offsetof(gemthatch_record, first) == 4u && offsetof(gemthatch_record, rate) == 8u, __LINE__);
     check(offsetof(gemthatch_record, superframes) == 9u && offsetof(gemthatch_record, length) == 10u, __LINE__);
-    check(offsetof(gemthatch_record, far) == 11u, __LINE__);
-    check(sizeof(gemthatch_place) == 20u && offsetof(gemthatch_place, refusal) == 0u, __LINE__);
+    check(offsetof(gemthatch_record, far) == 11u && offsetof(gemthatch_record, bo) == 12u, __LINE__);
+    check(offsetof(gemthatch_record, zeros) == 13u, __LINE__);
+    check(sizeof(gemthatch_place) == 24u && offsetof(gemthatch_place, refusal) == 0u, __LINE__);
     check(offsetof(gemthatch_place, handed) == 4u && offsetof(gemthatch_place, record) == 8u, __LINE__);
     open_channel(3u);
     check(none_at(0u, 0u) && none_at(UINT32_MAX, 0u), __LINE__);
     IS(gemthatch_channel_clock(&channel, GEMTHATCH_SLOT_MAX), 0u);
     IS(reserve_largest(0.0), 0u);
-    IS(gemthatch_channel_reserve(&channel, other.station, other.rate, other.superframes, GEMTHATCH_BS_MIN, other.length,
+    IS(gemthatch_channel_reserve(&channel, other.station, other.rate, other.superframes, GEMTHATCH_BS_MIN, other.length, other.bo,
                                  GEMTHATCH_KIND_RANGE, 0.0, 0.0, 0.0),
        0u);
     check(record_at(0u, largest) && record_at(channel.count - 1u, other), __LINE__);
@@ -304,7 +346,7 @@ static void walks(void)
     check(none_at(0u, GEMTHATCH_REFUSED_NOT_SOUND), __LINE__);
     open_channel(GEMTHATCH_RECORDS_MAX);
     for (i = 0; i < GEMTHATCH_RECORDS_MAX; i++)
-        IS(reserve(i, 1u, 1u, GEMTHATCH_BS_MIN, 1u, 0.0), 0u);
+        IS(reserve(i, 1u, 1u, GEMTHATCH_BS_MIN, 1u, 0, 0.0), 0u);
     IS(gemthatch_channel_record_at(&channel, GEMTHATCH_RECORDS_MAX - 1u).record.station, GEMTHATCH_RECORDS_MAX - 1u);
     check(none_at(GEMTHATCH_RECORDS_MAX, 0u), __LINE__);
 }
@@ -341,7 +383,7 @@ static void tallies(void)
 
 static int is_refusal(uint32_t number)
 {
-    return number <= GEMTHATCH_REFUSED_ENTRY || number == GEMTHATCH_REFUSED_DESTINATION;
+    return number <= GEMTHATCH_REFUSED_EARLY || number == GEMTHATCH_REFUSED_DESTINATION;
 }
 
 int main(void)
@@ -351,6 +393,7 @@ int main(void)
     destinations();
     parameters();
     tables();
+    offsets();
     log_records();
     searches();
     walks();

@@ -71,6 +71,7 @@ static int fill(uint32_t m1, size_t records, uint32_t fars)
     for (i = 0; i < records && refused == 0; i++)
         refused = gemthatch_channel_reserve(&channel, i, 1 + i % GEMTHATCH_RATE_MAX, 1 + i % GEMTHATCH_SUPERFRAMES_MAX,
                                             GEMTHATCH_BS_MIN + i % (GEMTHATCH_BS_MAX - 1), 1 + i % GEMTHATCH_LENGTH_MAX,
+                                            (int32_t)(i % (GEMTHATCH_BO_MAX + 1u)),
                                             GEMTHATCH_KIND_RANGE, fars > 0 && i % fars == 0 ? GEMTHATCH_MILES_MAX : 0.0, 0.0,
                                             GEMTHATCH_LIMIT_DEFAULT);
     return refused == 0;

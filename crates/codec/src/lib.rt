@@ -5,7 +5,6 @@ ghost use mathlib.Core.Bool.{false, cond};
 ghost use mathlib.Core.List.{[], _∷_};
 ghost use lib.Dec.{leb, eqb};
 ghost use Rattle.octets.specs.Lists.{every};
-ghost use Rattle.octets.specs.Complement.{twosOf, beyond127};
 ghost use Rattle.octets.specs.Refusals.{firstOf};
 ghost use Rattle.codec.specs.NineOctets.{bits, addressOf, blockWith, badCode, badAddress, misplaced, fieldTests, destinationTests, writeTests, octets1to3, bits3to1, octetsOf, refusedReading, reading, writing};
 ghost use Rattle.codec.specs.Rates.{badList, rateLookup, refusedLookup};
@@ -45,14 +44,6 @@ pub struct Reading {
 pub struct Writing {
     pub refusal: u32,
     pub octets: [u8; 9],
-}
-
-// The octet that says bo in two's complement.
-fn twos(bo: i32) -> u8
-    requires { ⌜ beyond127 bo ≡ false ⌝ }
-    ensures { λ r. ⌜ r ≡ twosOf bo ⌝ }
-{
-    if bo < 0 { (bo + 256) as u8 } else { bo as u8 }
 }
 
 fn bad_code(code: u32) -> bool
@@ -263,7 +254,7 @@ fn store_after(o1: u8, o2: u8, o3: u8, high: u32, b: Block) -> [u8; 9]
         b.roff as u8,
         b.br as u8,
         b.bs as u8,
-        twos(b.bo),
+        octets::twos(b.bo),
         (16 + b.bt) as u8,
     ]
 }

@@ -4,6 +4,7 @@ use mathlib.Core.Bool.{cond}
 use mathlib.Core.List.{List, [], _∷_, _++_}
 use lib.Dec.{eqb}
 use lib.Ieee.{Float}
+use lib.IntN.{ℤ}
 use lib.ListN.{getD}
 use Rattle.octets.specs.Octets.{little, holdsOnly}
 use Rattle.octets.specs.Refusals.{answer}
@@ -97,14 +98,15 @@ abbrev pub lent : ℕ → ℕ → ℕ → List ℕ → Channel
 lent m1 now count b = channel (record { m1 = m1; now = now; count = count }) b
 
 -- what a reserve asks for, its distance as a kind and two numbers
-abbrev pub request : ℕ → ℕ → ℕ → ℕ → ℕ → ℕ → Float → Float → Float → Request
-request station rate superframes bs length kind a b limit =
+abbrev pub request : ℕ → ℕ → ℕ → ℕ → ℕ → ℤ → ℕ → Float → Float → Float → Request
+request station rate superframes bs length bo kind a b limit =
     record {
       station = station;
       rate = rate;
       superframes = superframes;
       bs = bs;
       length = length;
+      bo = bo;
       distance = distanceOf kind a b;
       limit = limit;
     }

@@ -5,6 +5,7 @@ use codec::Destination;
 use codec::Reading;
 use codec::Writing;
 use record::Rec;
+use record::Zeros;
 use search::Found;
 use search::Query;
 use slots::Slot;
@@ -264,7 +265,7 @@ pub extern "C" fn gemthatch_clock(
     over_c(a.refusal, a.number)
 }
 
-// Adds one record at the end. Refused, in this order: 11, 8, 14, 15, 9, 5, 18, 16, 17.
+// Adds one record at the end. Refused, in this order: 11, 8, 14, 15, 9, 5, 6, 24, 18, 16, 17.
 #[no_mangle]
 pub extern "C" fn gemthatch_reserve(
     memory: &mut [u8],
@@ -276,13 +277,14 @@ pub extern "C" fn gemthatch_reserve(
     superframes: u32,
     bs: u32,
     length: u32,
+    bo: i32,
     kind: u32,
     a: f64,
     b: f64,
     limit: f64,
 ) -> u32
-    ensures answer { λ r. ⌜ r ≡ callNumber (lent m1 time count (now (memory .entry))) (reserve (request station rate superframes bs length kind a b limit)) ⌝ }
-    ensures memory { λ _. ⌜ now (memory .exit) ≡ leaves (lent m1 time count (now (memory .entry))) (reserve (request station rate superframes bs length kind a b limit)) .memory ⌝ }
+    ensures answer { λ r. ⌜ r ≡ callNumber (lent m1 time count (now (memory .entry))) (reserve (request station rate superframes bs length bo kind a b limit)) ⌝ }
+    ensures memory { λ _. ⌜ now (memory .exit) ≡ leaves (lent m1 time count (now (memory .entry))) (reserve (request station rate superframes bs length bo kind a b limit)) .memory ⌝ }
 {
     let s = State {
         m1,
@@ -296,6 +298,7 @@ pub extern "C" fn gemthatch_reserve(
         superframes,
         bs,
         length,
+        bo,
         distance: d,
         limit,
     };
@@ -478,6 +481,8 @@ pub extern "C" fn gemthatch_record_at(
                 superframes: 0,
                 length: 0,
                 far: 0,
+                bo: 0,
+                zeros: Zeros { a: 0, b: 0, c: 0 },
             },
         },
     }

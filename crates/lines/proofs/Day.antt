@@ -5,6 +5,7 @@ use mathlib.Core.List.{List, []}
 use native.Mathlib.Nat.{zero-add}
 use native.Mathlib.Omega.{arith}
 use lib.ListN.{length, replicate, length-append}
+use Rattle.octets.specs.Complement.{signedOf}
 use Rattle.octets.specs.Refusals.{answer}
 use Rattle.octets.proofs.Refusals.{answer-elim}
 use Rattle.octets.proofs.Zeros.{sets-holdsOnly}
@@ -15,6 +16,7 @@ use Rattle.lines.specs.Listing.{refusedLine}
 use Rattle.lines.specs.Day.{okLine, saidLine, stateLine, recordLine, lineRoom, lineOf}
 use Rattle.lines.specs.Steps.{Room, Wrote}
 use Rattle.lines.proofs.Decimal.{decimal-one, decimal-two, decimal-thousand, length-decimal}
+use Rattle.lines.proofs.Signed.{signedOf-size, length-signedDecimal}
 
 -- ---- how long they are
 
@@ -45,7 +47,7 @@ state-room m1 time count m t c =
     ))
 
 -- nor is a record's
-pub record-room : (r : Rec) → (r .station < 2 ^ 32) × (r .first < 2 ^ 32) × (r .rate < 256) × (r .superframes < 256) × (r .length < 256) × (r .far < 256)
+pub record-room : (r : Rec) → (r .station < 2 ^ 32) × (r .first < 2 ^ 32) × (r .rate < 256) × (r .superframes < 256) × (r .length < 256) × (r .far < 256) × (r .bo < 256)
     → length (recordLine r) ≤ lineRoom
 unfolding recordLine
 record-room r h =
@@ -58,6 +60,7 @@ record-room r h =
       length-decimal 2 (r .superframes) (omega arith),
       length-decimal 2 (r .length) (omega arith),
       length-decimal 2 (r .far) (omega arith),
+      length-signedDecimal 2 (signedOf (r .bo)) (omega (arith, signedOf-size (r .bo) (omega arith))),
     ))
 
 -- ---- a line by value

@@ -1,5 +1,5 @@
 -- Laws of a group's line, and of the lines of several groups. Assumes nothing.
-use Prim.Native.Nat.{ℕ, suc, _+_, _^_, _≤_}
+use Prim.Native.Nat.{ℕ, _+_, _^_, _≤_}
 use mathlib.Core.Path.{_≡_, refl, sym}
 use mathlib.Core.Bool.{Bool, true, false}
 use mathlib.Core.List.{List, _++_}
@@ -7,9 +7,7 @@ use native.Mathlib.Numerals.{add-one}
 use native.Mathlib.Omega.{arith}
 use borrow.Author.Tests.{eqb-true, eqb-false, leb-false}
 use lib.Dec.{eqb}
-use lib.IntN.{ℤ, pos, negsuc}
 use lib.ListN.{length, length-append}
-use Rattle.octets.specs.Complement.{beyond127}
 use Rattle.octets.specs.Octets.{AreOctets}
 use Rattle.octets.proofs.Complement.{within127}
 use Rattle.octets.proofs.Refusals.{answer-accepted, answer-refused}
@@ -20,9 +18,9 @@ use Rattle.codec.specs.Steps.{Fitting}
 use Rattle.codec.specs.declared.Reading.{Reading}
 use Rattle.codec.specs.NineOctets.{badAddress, reading}
 use Rattle.codec.proofs.Tests.{read-fitting, reading-refusal-most}
-use Rattle.lines.specs.Text.{signedDecimal}
 use Rattle.lines.specs.Listing.{destinationText, blockLine, refusedLine, line, group, firstLines, longest}
 use Rattle.lines.proofs.Decimal.{length-decimal}
+use Rattle.lines.proofs.Signed.{length-signedDecimal}
 
 -- ---- which line
 
@@ -44,12 +42,6 @@ firstLines-next n s = rw add-one
 
 -- ---- how long they are
 
--- bo has at most four characters
-signedDecimal-short : (z : ℤ) → beyond127 z ≡ false → length (signedDecimal z) ≤ 4
-unfolding signedDecimal
-signedDecimal-short (pos n) h = omega (arith, length-decimal 2 n (omega (arith, within127 (pos n) h)))
-signedDecimal-short (negsuc n) h = omega (arith, length-decimal 2 (suc n) (omega (arith, within127 (negsuc n) h)))
-
 -- what is printed for d has at most nine
 destinationText-short : (d : Destination) → badAddress d ≡ false → length (destinationText d) ≤ 9
 unfolding destinationText
@@ -68,7 +60,7 @@ blockLine-short b f =
       length-decimal 2 (b .roff) (omega (arith, f .roff-low)),
       length-decimal 1 (b .br) (omega (arith, f .br-low)),
       length-decimal 2 (b .bs) (omega (arith, f .bs-low)),
-      signedDecimal-short (b .bo) (f .bo-in),
+      length-signedDecimal 2 (b .bo) (omega (arith, within127 (b .bo) (f .bo-in))),
       length-decimal 0 (b .bt) (omega (arith, f .bt-low)),
     ))
 

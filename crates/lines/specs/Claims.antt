@@ -4,6 +4,7 @@ use mathlib.Core.Path.{_≡_}
 use mathlib.Core.List.{List, [], _∷_, _++_}
 use lib.ListN.{length}
 use Rattle.octets.specs.Octets.{AreOctets}
+use Rattle.record.specs.Record.{threeZeros}
 use Rattle.lines.specs.Text.{text}
 use Rattle.lines.specs.Listing.{header, line, allLines, listing, longest}
 use Rattle.lines.specs.Day.{saidLine, stateLine, recordLine}
@@ -30,4 +31,4 @@ pub record Claims : Type 0 where
   -- a table at a moment: its first line, and a record's
   pub moment-sample :
       (stateLine 4500 100 1 ≡ text "4500 100 1\n")
-      × (recordLine (record { station = 1; first = 105; rate = 3; superframes = 2; length = 5; far = 0 }) ≡ text "1 105 3 2 5 0\n")
+      × (recordLine (record { station = 1; first = 105; rate = 3; superframes = 2; length = 5; far = 0; bo = 0xFE; zeros = threeZeros }) ≡ text "1 105 3 2 5 0 -2\n")

@@ -3,10 +3,11 @@ use Prim.Native.Nat.{ℕ}
 use mathlib.Core.List.{List, _++_}
 use lib.ListN.{length as len}
 use Rattle.octets.specs.Octets.{holdsOnly}
+use Rattle.octets.specs.Complement.{signedOf}
 use Rattle.octets.specs.Refusals.{answer}
 use Rattle.record.specs.declared.Rec.{Rec}
 use Rattle.lines.specs.declared.Line.{Line}
-use Rattle.lines.specs.Text.{text, decimal}
+use Rattle.lines.specs.Text.{text, decimal, signedDecimal}
 use Rattle.lines.specs.Listing.{refusedLine}
 
 -- an accepted call: the word and the number reported
@@ -21,7 +22,7 @@ saidLine place refusal number = decimal place ++ text " " ++ answer refusal (okL
 unfoldable pub stateLine : ℕ → ℕ → ℕ → List ℕ
 stateLine m1 now count = decimal m1 ++ text " " ++ decimal now ++ text " " ++ decimal count ++ text "\n"
 
--- a record's line: its fields, in the record's order
+-- a record's line: its fields, in the record's order, bo as the number that it says
 unfoldable pub recordLine : Rec → List ℕ
 recordLine r =
     decimal (r .station)
@@ -35,11 +36,13 @@ recordLine r =
     ++ decimal (r .length)
     ++ text " "
     ++ decimal (r .far)
+    ++ text " "
+    ++ signedDecimal (signedOf (r .bo))
     ++ text "\n"
 
--- none of these lines is longer than "18446744073709551615 refused 4294967295" and its end
+-- none of these lines is longer than "4294967295 4294967295 255 255 255 255 -128" and its end
 abbrev pub lineRoom : ℕ
-lineRoom = 40
+lineRoom = 43
 
 -- a line by value: how long it is, and its octets, the rest 0
 abbrev pub lineOf : List ℕ → Line

@@ -19,8 +19,8 @@ use record::Rec;
 // No line of a listing is longer: "134217727 31 255 13 254 -127 3" and its end.
 pub const LONGEST: usize = 31;
 
-// No other line is longer: "18446744073709551615 refused 4294967295" and its end.
-pub const LINE: usize = 40;
+// No other line is longer: "4294967295 4294967295 255 255 255 255 -128" and its end.
+pub const LINE: usize = 43;
 
 // A line by value: its length, and its octets, the rest 0.
 pub struct Line {
@@ -131,15 +131,15 @@ fn put_field(out: &mut [u8], at: usize, n: u32, after: u8) -> usize
     put(out, i, after)
 }
 
-// A signed number, and a space: a minus is put, and the number takes its place where it is not negative.
-fn put_signed(out: &mut [u8], at: usize, z: i32) -> usize
-    requires { ⌜ Room (now out) at (signedDecimal z ++ (32 ∷ [])) ⌝ }
-    ensures { λ r. ⌜ Wrote (now (out .entry)) at (signedDecimal z ++ (32 ∷ [])) r (now (out .exit)) ⌝ }
+// A signed number, and the octet that follows it: a minus is put, and the number takes its place where it is not negative.
+fn put_signed(out: &mut [u8], at: usize, z: i32, after: u8) -> usize
+    requires { ⌜ Room (now out) at (signedDecimal z ++ (after ∷ [])) ⌝ }
+    ensures { λ r. ⌜ Wrote (now (out .entry)) at (signedDecimal z ++ (after ∷ [])) r (now (out .exit)) ⌝ }
 {
     let n = magnitude(z);
     let i = at + one_if(z < 0);
     out[at] = b'-';
-    put_field(out, i, n, b' ')
+    put_field(out, i, n, after)
 }
 
 // What is printed for d, and a space.
@@ -166,7 +166,7 @@ fn put_fields(out: &mut [u8], at: usize, b: Block) -> usize
     let i = put_field(out, i, b.roff, b' ');
     let i = put_field(out, i, b.br, b' ');
     let i = put_field(out, i, b.bs, b' ');
-    let i = put_signed(out, i, b.bo);
+    let i = put_signed(out, i, b.bo, b' ');
     put_field(out, i, b.bt, b'\n')
 }
 
@@ -269,7 +269,8 @@ fn put_record(out: &mut [u8], at: usize, r: Rec) -> usize
     let i = put_field(out, i, r.rate as u32, b' ');
     let i = put_field(out, i, r.superframes as u32, b' ');
     let i = put_field(out, i, r.length as u32, b' ');
-    put_field(out, i, r.far as u32, b'\n')
+    let i = put_field(out, i, r.far as u32, b' ');
+    put_signed(out, i, octets::signed(r.bo), b'\n')
 }
 
 // The line of a log record: its place, and what was said to it.

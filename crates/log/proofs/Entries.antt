@@ -39,7 +39,7 @@ pub callIn-elim : (P : LoggedCall → Type 0) (o : List ℕ) → P NoCall
 unfolding callIn
 callIn-elim P o none c r d w =
     let f = logRecordOf o in
-    let series : List ℕ → List ℕ = λ others. f .rate ∷ f .superframes ∷ f .length ∷ others in
+    let series : List ℕ → List ℕ = λ others. f .rate ∷ f .superframes ∷ f .length ∷ f .bo ∷ others in
     by-cond P (eqb (len o) 24)
     (λ _.
     by-cond P (eqb (f .operation) 1) (λ h. where-zero P (series (f .station ∷ f .distance ∷ f .limit ∷ f .closing ∷ [])) _ none (c (eqb-true _ 1 h)))

@@ -1,10 +1,11 @@
--- The log records of document 02, No. 2: what 24 octets ask for, and what that call says and leaves.
+-- The log records of document 02, No. 2 and No. 4: what 24 octets ask for, and what that call says and leaves.
 use Prim.Native.Nat.{ℕ}
 use mathlib.Core.Bool.{cond}
 use mathlib.Core.List.{List, [], _∷_}
 use lib.Dec.{eqb}
 use lib.ListN.{length as len}
 use Rattle.octets.specs.Octets.{numberAt, zeros}
+use Rattle.octets.specs.Complement.{signedOf}
 use Rattle.distance.specs.declared.Distance.{Distance}
 use Rattle.distance.specs.declared.Distance.the-variants.{Unknown, Range}
 use Rattle.distance.specs.Distances.{num}
@@ -18,7 +19,7 @@ use Rattle.log.specs.declared.LoggedCall.the-variants.{Clock, Reserve, S
 
 -- ---- the layout
 
--- operation, rate, superframes, length (1 each), station (4), slot or bs (4), distance (4), reuse limit (4), four zeros; little-endian
+-- operation, rate, superframes, length (1 each), station (4), slot or bs (4), distance (4), reuse limit (4), bo (1), three zeros; little-endian
 unfoldable pub logRecordOf : List ℕ → LogRecord
 logRecordOf o =
     record {
@@ -30,7 +31,8 @@ logRecordOf o =
       slot = numberAt 4 o 8;
       distance = numberAt 4 o 12;
       limit = numberAt 4 o 16;
-      closing = numberAt 4 o 20;
+      bo = numberAt 1 o 20;
+      closing = numberAt 3 o 21;
     }
 
 -- a distance in whole miles, all ones for unknown
@@ -46,9 +48,9 @@ whereZero unused call = cond (zeros unused) call NoCall
 -- clock: the slot is used
 abbrev pub clockIn : LogRecord → LoggedCall
 clockIn r =
-    whereZero (r .rate ∷ r .superframes ∷ r .length ∷ r .station ∷ r .distance ∷ r .limit ∷ r .closing ∷ []) (Clock (r .slot))
+    whereZero (r .rate ∷ r .superframes ∷ r .length ∷ r .bo ∷ r .station ∷ r .distance ∷ r .limit ∷ r .closing ∷ []) (Clock (r .slot))
 
--- reserve: all are used, bs in the slot's place
+-- reserve: all are used, bs in the slot's place, bo in two's complement
 abbrev pub reserveIn : LogRecord → LoggedCall
 reserveIn r =
     whereZero (r .closing ∷ [])
@@ -59,6 +61,7 @@ reserveIn r =
       superframes = r .superframes;
       bs = r .slot;
       length = r .length;
+      bo = signedOf (r .bo);
       distance = inMiles (r .distance);
       limit = num (r .limit);
     }))
@@ -66,13 +69,13 @@ reserveIn r =
 -- distance: the station, the distance and the limit are used
 abbrev pub distanceIn : LogRecord → LoggedCall
 distanceIn r =
-    whereZero (r .rate ∷ r .superframes ∷ r .length ∷ r .slot ∷ r .closing ∷ [])
+    whereZero (r .rate ∷ r .superframes ∷ r .length ∷ r .bo ∷ r .slot ∷ r .closing ∷ [])
     (SetDistance (r .station) (inMiles (r .distance)) (num (r .limit)))
 
 -- wipe: the station is used
 abbrev pub wipeIn : LogRecord → LoggedCall
 wipeIn r =
-    whereZero (r .rate ∷ r .superframes ∷ r .length ∷ r .slot ∷ r .distance ∷ r .limit ∷ r .closing ∷ []) (Wipe (r .station))
+    whereZero (r .rate ∷ r .superframes ∷ r .length ∷ r .bo ∷ r .slot ∷ r .distance ∷ r .limit ∷ r .closing ∷ []) (Wipe (r .station))
 
 -- by the operation: 1 clock, 2 reserve, 3 distance, 4 wipe; another is no call
 abbrev pub byOperation : LogRecord → LoggedCall

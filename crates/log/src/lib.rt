@@ -15,7 +15,7 @@ ghost use Rattle.log.specs.Claims.{Claims};
 // The octets of a log record.
 pub const ENTRY: usize = 24;
 
-// The numbers of a log record, in the order in which they stand there. The slot is a reserve's bs; `closing` are the four zeros at the end.
+// The numbers of a log record, in the order in which they stand there. The slot is a reserve's bs; `closing` are the three zeros at the end.
 struct LogRecord {
     operation: u8,
     rate: u8,
@@ -25,6 +25,7 @@ struct LogRecord {
     slot: u32,
     distance: u32,
     limit: u32,
+    bo: u8,
     closing: u32,
 }
 
@@ -41,6 +42,7 @@ fn log_record(octets: &[u8]) -> LogRecord
     requires { ⌜ length (now octets) ≡ 24 ⌝ }
     ensures { λ r. ⌜ r ≡ logRecordOf (now (octets .entry)) ⌝ }
 {
+    let last_four = octets::number_at(octets, 20);
     LogRecord {
         operation: octets::octet_at(octets, 0),
         rate: octets::octet_at(octets, 1),
@@ -50,7 +52,8 @@ fn log_record(octets: &[u8]) -> LogRecord
         slot: octets::number_at(octets, 8),
         distance: octets::number_at(octets, 12),
         limit: octets::number_at(octets, 16),
-        closing: octets::number_at(octets, 20),
+        bo: octets::octet_at(octets, 20),
+        closing: last_four / 256,
     }
 }
 
@@ -71,11 +74,11 @@ fn in_miles(n: u32) -> Distance
     Distance::Range(miles(n))
 }
 
-// Whether rate, superframes and length, which only a reserve uses, are 0.
+// Whether rate, superframes, length and bo, which only a reserve uses, are 0.
 fn no_series(r: LogRecord) -> bool
-    ensures { λ b. ⌜ b ≡ zeros (r .rate ∷ r .superframes ∷ r .length ∷ []) ⌝ }
+    ensures { λ b. ⌜ b ≡ zeros (r .rate ∷ r .superframes ∷ r .length ∷ r .bo ∷ []) ⌝ }
 {
-    (r.rate == 0) & (r.superframes == 0) & (r.length == 0)
+    (r.rate == 0) & (r.superframes == 0) & (r.length == 0) & (r.bo == 0)
 }
 
 fn clock_in(r: LogRecord) -> LoggedCall
@@ -99,6 +102,7 @@ fn reserve_in(r: LogRecord) -> LoggedCall
             superframes: r.superframes as u32,
             bs: r.slot,
             length: r.length as u32,
+            bo: octets::signed(r.bo),
             distance: d,
             limit: miles(r.limit),
         });

@@ -1,5 +1,5 @@
-// Document 01's marked cases: one claim over the definitions, and the same cases run through the functions. Beside them run cases of
-// slips that the marked ones let through, the parameters' defaults, and 000's example of a superframe block reservation.
+// Document 01's marked cases, and those of No. 4: one claim over the definitions, and the same cases run through the functions. Beside them run
+// cases of slips that the marked ones let through, the parameters' defaults, and 000's example of a superframe block reservation.
 use distance::Distance;
 use distance::Offset;
 use libc::STDOUT_FILENO;
@@ -8,7 +8,7 @@ use slots::Slot;
 use slots::SlotAnswer;
 use table::Request;
 use table::State;
-ghost use Prim.Native.Nat.{_≤_};
+ghost use Prim.Native.Nat.{_≤_, _<_};
 ghost use Rattle.marked.specs.Marked.{Marked};
 
 // Every marked case holds of the definitions that the functions promise.
@@ -115,24 +115,26 @@ fn reserve_alone(memory: &mut [u8], m1: u32, slot: u32, q: Request) -> State {
 }
 
 // What a station asks for T.
-fn request_t(station: u32, distance: Distance) -> Request {
+fn request_t(station: u32, bo: i32, distance: Distance) -> Request {
     Request {
         station,
         rate: 3,
         superframes: 2,
         bs: 5,
         length: 5,
+        bo,
         distance,
         limit: LIMIT,
     }
 }
 
-fn reserve_t(memory: &mut [u8], distance: Distance) -> State {
-    reserve_alone(memory, 4500, 100, request_t(1, distance))
+fn reserve_t(memory: &mut [u8], bo: i32, distance: Distance) -> State {
+    reserve_alone(memory, 4500, 100, request_t(1, bo, distance))
 }
 
-fn put_last_slot(s: State, memory: &[u8]) {
-    put(b"P5");
+// The last slot of the table's first record.
+fn put_last_slot(name: &[u8], s: State, memory: &[u8]) {
+    put(name);
     put_number(series::last_slot(record::load(memory, 0), s.m1));
     put(b"\n");
 }
@@ -164,11 +166,14 @@ fn put_clock(s: State, memory: [u8; record::SIZE], slot: u32) {
     }
 }
 
-fn put_clocks(s: State, memory: [u8; record::SIZE]) {
-    put(b"P7");
-    put_clock(s, memory, 7609);
+// At its last slot, and one later.
+fn put_clocks(name: &[u8], s: State, memory: [u8; record::SIZE], last: u32)
+    requires { ⌜ last < 1000000000 ⌝ }
+{
+    put(name);
+    put_clock(s, memory, last);
     put(b",");
-    put_clock(s, memory, 7610);
+    put_clock(s, memory, last + 1);
     put(b"\n");
 }
 
@@ -194,16 +199,16 @@ fn put_search(name: &[u8], s: State, memory: &[u8], lo: u32, hi: u32) {
 // What a search gives in T's table, made anew.
 fn put_search_t(name: &[u8], distance: Distance, lo: u32, hi: u32) {
     let mut memory = [0u8; record::SIZE];
-    let s = reserve_t(&mut memory, distance);
+    let s = reserve_t(&mut memory, 0, distance);
     put_search(name, s, &memory, lo, hi);
 }
 
 fn put_t() {
     let mut memory = [0u8; record::SIZE];
-    let near = reserve_t(&mut memory, Distance::Unknown);
-    put_last_slot(near, &memory);
+    let near = reserve_t(&mut memory, 0, Distance::Unknown);
+    put_last_slot(b"P5", near, &memory);
     put_slots(near, &memory);
-    put_clocks(near, memory);
+    put_clocks(b"P7", near, memory, 7609);
     put_search_t(b"P8", Distance::Unknown, 105, 111);
     put_search_t(b"P9", Distance::Range(LIMIT), 105, 111);
     put_search_t(b"P10", Distance::Unknown, 105, 105);
@@ -225,6 +230,46 @@ fn put_offsets() {
     put(b",");
     put_offset(90.0, 119.0);
     put(b"\n");
+}
+
+// ---- No. 4
+
+// T with bo 10.
+fn put_offset_t() {
+    let mut memory = [0u8; record::SIZE];
+    let s = reserve_t(&mut memory, 10, Distance::Unknown);
+    put(b"bo 10:");
+    let held = put_blocks(s, &memory, 100, 12121);
+    put(b", slots held:");
+    put_number(held as u64);
+    put(b"\n");
+    put_last_slot(b"bo 10, last slot:", s, &memory);
+    put(b"bo 10, octets:");
+    put_octets(&memory);
+    put(b"\n");
+    put_clocks(b"bo 10:", s, memory, 12119);
+}
+
+// What a reserve is answered in superframes of 60 slots, at slot 0, and where its blocks lie then.
+fn put_short(name: &[u8], bo: i32) {
+    let mut memory = [0u8; record::SIZE];
+    let opened = State::open(&mut memory, 60).state;
+    let a = opened.reserve(&mut memory, request_blocks(1, 2, 5, bo));
+    put(name);
+    if a.refusal != 0 {
+        put_refused(a.refusal);
+    } else {
+        put_blocks(a.state, &memory, 0, 60);
+        put(b", last slot:");
+        put_number(series::last_slot(record::load(&memory, 0), 60));
+    }
+    put(b"\n");
+}
+
+fn put_offsets_of_blocks() {
+    put_offset_t();
+    put_short(b"M1 60, bo -62:", -62);
+    put_short(b"M1 60, bo -63:", -63);
 }
 
 // ---- slips that the marked cases let through, the parameters' defaults, and 000's example
@@ -249,13 +294,14 @@ fn put_defaults() {
 }
 
 // What a near station asks for in one superframe.
-fn request_blocks(rate: u32, bs: u32, length: u32) -> Request {
+fn request_blocks(rate: u32, bs: u32, length: u32, bo: i32) -> Request {
     Request {
         station: 1,
         rate,
         superframes: 1,
         bs,
         length,
+        bo,
         distance: Distance::Unknown,
         limit: LIMIT,
     }
@@ -291,7 +337,7 @@ fn put_blocks(s: State, memory: &[u8], from: u32, to: u32) -> u32 {
 // Where M1 is no multiple of the rate R, j*M1/R differs from j*(M1/R).
 fn put_spacing(name: &[u8], m1: u32, rate: u32) {
     let mut memory = [0u8; record::SIZE];
-    let s = reserve_alone(&mut memory, m1, 0, request_blocks(rate, 2, 1));
+    let s = reserve_alone(&mut memory, m1, 0, request_blocks(rate, 2, 1, 0));
     put(name);
     put_blocks(s, &memory, 0, m1);
     put(b"\n");
@@ -299,8 +345,8 @@ fn put_spacing(name: &[u8], m1: u32, rate: u32) {
 
 // The table that holds T near, and T far of another station.
 fn reserve_both(memory: &mut [u8]) -> State {
-    let near = reserve_t(memory, Distance::Unknown);
-    near.reserve(memory, request_t(2, Distance::Range(LIMIT)))
+    let near = reserve_t(memory, 0, Distance::Unknown);
+    near.reserve(memory, request_t(2, 0, Distance::Range(LIMIT)))
         .state
 }
 
@@ -319,7 +365,7 @@ fn put_near_and_far() {
 // The numbers of the slots 104 to 110 around T's first block, by one call, in octets that held something else.
 fn put_window(name: &[u8], distance: Distance) {
     let mut memory = [0u8; record::SIZE];
-    let s = reserve_t(&mut memory, distance);
+    let s = reserve_t(&mut memory, 0, distance);
     let mut octets = [7u8; 7 + 32];
     slots::states(s, &memory, 104, &mut octets);
     put(name);
@@ -334,7 +380,7 @@ fn put_windows() {
 
 fn put_example() {
     let mut memory = [0u8; record::SIZE];
-    let s = reserve_alone(&mut memory, 4500, 90, request_blocks(3, 10, 10));
+    let s = reserve_alone(&mut memory, 4500, 90, request_blocks(3, 10, 10, 0));
     put(b"000's three blocks of ten slots:");
     let held = put_blocks(s, &memory, 90, 4590);
     put(b", slots held:");
@@ -346,6 +392,7 @@ fn main() {
     put_readings();
     put_t();
     put_offsets();
+    put_offsets_of_blocks();
     put_d_bits();
     put_defaults();
     put_spacing(b"M1 60, rate 7:", 60, 7);

@@ -1,16 +1,16 @@
 -- Two's complement in one octet, and signed numbers of 32 bits that are not below 0. omega does not read ℤ, so each law turns a fact of ℤ into one of ℕ. Assumes nothing.
-use Prim.Native.Nat.{ℕ, suc, _-_, _^_, _<_, _≤_}
+use Prim.Native.Nat.{ℕ, suc, _+_, _-_, _^_, _<_, _≤_}
 use mathlib.Core.Path.{_≡_, refl, sym, _∙_}
 use mathlib.Core.Bool.{Bool, true, false, true≢false}
 use native.Mathlib.Omega.{arith}
 use mir.Syntax.{Width, w8, w32}
 use mir.Val.{toZ, ofZ, Fits, SFits}
 use mir.Facts.{toZ-ofZ}
-use lib.IntN.{ℤ, pos, negsuc, natAbs, _+ℤ_}
+use lib.IntN.{ℤ, pos, negsuc, natAbs, subℕ, _+ℤ_}
 use lib.Signed.{ltZ, nonNeg}
 use lib.Dec.{T, ltb, eqb}
 use borrow.Author.Tests.{ltb-true, ltb-false, lt-ltb, le-ltb, eqb-true, eqb-false, ne-eqb}
-use Rattle.octets.specs.Complement.{signedOf, twosOf, beyond127}
+use Rattle.octets.specs.Complement.{signedOf, twosOf, beyond127, octetOf, lifted}
 use Rattle.octets.proofs.Refusals.{or-eq-false}
 
 -- ---- within -127..127
@@ -76,6 +76,26 @@ twos-below (negsuc n) h l =
 pub twos-above : (z : ℤ) → ltZ z (pos 0) ≡ false → z ≡ pos (twosOf z)
 twos-above (pos n) l = refl
 twos-above (negsuc n) l = absurd (true≢false l)
+
+-- octetOf is twosOf within -127..127
+pub octetOf-within : (z : ℤ) → beyond127 z ≡ false → octetOf z ≡ twosOf z
+unfolding octetOf
+octetOf-within z h = simp h
+
+-- ---- lifted
+
+-- less 128, it is the number
+pub lifted-signedOf : (n : ℕ) → n < 256 → subℕ (lifted n) 128 ≡ signedOf n
+lifted-signedOf n h = go (ltb n 128) refl
+  where
+    go : (t : Bool) → t ≡ ltb n 128 → subℕ (lifted n) 128 ≡ signedOf n
+    go true e =
+        let k : n + 128 - 128 ≡ n = omega arith in
+        simp (← e, le-ltb (n + 128) 128 (omega arith), k)
+    go false e =
+        let l : 128 ≤ n = ltb-false n 128 (sym e) in
+        let k : 128 - suc (n - 128) ≡ 256 - suc n = omega arith in
+        simp (← e, lt-ltb (n - 128) 128 (omega arith), lt-ltb n 256 h, k)
 
 -- ---- an i32 that is not below 0
 

@@ -3,7 +3,7 @@ use Prim.Native.Nat.{ℕ, zero, suc, _+_, _*_, _/_, _%_, _^_, _<_, _≤_}
 use mathlib.Core.Path.{_≡_, refl, ap, _∙_}
 use mathlib.Core.List.{List, [], _∷_, _++_, append-assoc, append-nil}
 use native.Mathlib.Nat.{add-zero, pow-suc}
-use native.Mathlib.Numerals.{towards-numerals}
+use native.Mathlib.Numerals.{add-one, towards-numerals}
 use native.Mathlib.Omega.{arith}
 use lib.Dec.{lit<}
 use lib.ListN.{length, getD, set, take, drop, drop-of-length-le}
@@ -77,6 +77,12 @@ numberAt-out w m at h = rw (lt-leb (at + w) (length m) h)
 pub numberAt-one : (m : List ℕ) (at : ℕ) → at + 1 ≤ length m → numberAt 1 m at ≡ getD m at 0
 unfolding number
 numberAt-one m at h = numberAt-in 1 m at h ∙ rw (drop-cons m at 0 (omega arith)) (omega arith)
+
+-- over 256, what all but the first of them say
+pub numberAt-over : (w : ℕ) (m : List ℕ) (at : ℕ) → at + suc w ≤ length m → getD m at 0 < 256 → numberAt (suc w) m at / 256 ≡ numberAt w m (at + 1)
+unfolding number
+numberAt-over w m at h b =
+    rw (numberAt-in (suc w) m at h, numberAt-in w m (at + 1) (omega arith), drop-cons m at 0 (omega arith), add-one at) (omega arith)
 
 -- four octets, one by one
 pub numberAt-four : (m : List ℕ) (at : ℕ) → at + 4 ≤ length m

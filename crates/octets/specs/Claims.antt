@@ -3,11 +3,11 @@ use Prim.Native.Nat.{ℕ, _+_, _^_, _<_, _≤_}
 use mathlib.Core.Path.{_≡_}
 use mathlib.Core.Bool.{false}
 use mathlib.Core.List.{List}
-use lib.IntN.{ℤ}
+use lib.IntN.{ℤ, subℕ}
 use lib.Dec.{eqb}
 use lib.ListN.{length}
 use Rattle.octets.specs.Octets.{AreOctets, little, number, numberAt, putAt}
-use Rattle.octets.specs.Complement.{signedOf, twosOf, beyond127}
+use Rattle.octets.specs.Complement.{signedOf, twosOf, beyond127, lifted}
 
 pub record Claims : Type 0 where
   -- a number of w octets comes back from its octets
@@ -25,3 +25,5 @@ pub record Claims : Type 0 where
   pub twos-is-signed : (z : ℤ) → beyond127 z ≡ false → signedOf (twosOf z) ≡ z
   pub signed-is-twos : (n : ℕ) → n < 256 → twosOf (signedOf n) ≡ n
   pub only-128 : (n : ℕ) → n < 256 → beyond127 (signedOf n) ≡ eqb n 128
+  -- and what is lifted, less 128, is the number that the octet says
+  pub lifted-is-signed : (n : ℕ) → n < 256 → subℕ (lifted n) 128 ≡ signedOf n

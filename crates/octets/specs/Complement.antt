@@ -1,5 +1,5 @@
 -- Two's complement in one octet.
-use Prim.Native.Nat.{ℕ, _-_}
+use Prim.Native.Nat.{ℕ, _+_, _-_}
 use mathlib.Core.Bool.{Bool, cond, _||_}
 use lib.IntN.{ℤ, pos, negsuc, subℕ}
 use lib.Signed.{ltZ}
@@ -17,3 +17,11 @@ twosOf (negsuc n) = 255 - n
 -- outside -127..127
 abbrev pub beyond127 : ℤ → Bool
 beyond127 z = ltZ z (negsuc 126) || ltZ (pos 127) z
+
+-- the octet of a number of -127..127, 0 for any other
+unfoldable pub octetOf : ℤ → ℕ
+octetOf z = cond (beyond127 z) 0 (twosOf z)
+
+-- the number that an octet says in two's complement, and 128, so that it is not below 0
+abbrev pub lifted : ℕ → ℕ
+lifted n = cond (ltb n 128) (n + 128) (n - 128)

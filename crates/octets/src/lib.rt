@@ -6,7 +6,7 @@ ghost use mathlib.Core.List.{_∷_, [], _++_};
 ghost use lib.Dec.{eqb};
 ghost use lib.ListN.{length, take, drop};
 ghost use Rattle.octets.specs.Octets.{little, number, numberAt, putAt, zeros, zeroFrom, toFront};
-ghost use Rattle.octets.specs.Complement.{signedOf};
+ghost use Rattle.octets.specs.Complement.{signedOf, octetOf, lifted};
 ghost use Rattle.octets.specs.Claims.{Claims};
 
 fn wide(x: u8) -> u32
@@ -93,6 +93,26 @@ pub fn signed(x: u8) -> i32
     ensures { λ r. ⌜ r ≡ signedOf x ⌝ }
 {
     if x < 128 { x as i32 } else { (x as i32) - 256 }
+}
+
+// The octet that says a number of -127..127 in two's complement, 0 for any other.
+pub fn twos(z: i32) -> u8
+    ensures { λ r. ⌜ r ≡ octetOf z ⌝ }
+{
+    if (z < -127) | (127 < z) {
+        return 0;
+    }
+    if z < 0 { (z + 256) as u8 } else { z as u8 }
+}
+
+// The number that an octet says in two's complement, and 128.
+pub fn lifted(x: u8) -> u8
+    ensures { λ r. ⌜ r ≡ lifted x ⌝ }
+{
+    if x < 128 {
+        return x + 128;
+    }
+    x - 128
 }
 
 fn greater(a: u8, b: u8) -> u8

@@ -6,7 +6,7 @@ use native.Mathlib.Omega.{arith}
 use lib.ListN.{length, take, drop, length-append, length-take, length-drop, take-append-drop}
 use lib.Seq.{take-append-le, drop-append-le, take-at, drop-at, take-add, length-take-le}
 use Rattle.octets.specs.Octets.{AreOctets, little, number}
-use Rattle.octets.proofs.Octets.{are-octets-take, are-octets-drop, length-little, number-little, little-number}
+use Rattle.octets.proofs.Octets.{are-octets-take, are-octets-drop, length-little, number-bound, number-little, little-number}
 use Rattle.record.specs.declared.Rec.{Rec}
 use Rattle.record.specs.Record.{size, widths, fields, recordOf, littles, numbers, encode, decode, Fit, FitRec}
 
@@ -58,9 +58,18 @@ numbers-append (w ∷ ws) bs after h =
     let l : w ≤ length bs = omega arith in
     rw (take-append-le w bs after l, drop-append-le w bs after l, numbers-append ws (drop w bs) after (simp length-drop (omega arith)))
 
+-- the numbers that octets say fit
+fit-numbers : (ws bs : List ℕ) → AreOctets bs → total ws ≤ length bs → Fit ws (numbers ws bs)
+unfolding numbers total
+fit-numbers [] bs h fits = tt
+fit-numbers (w ∷ ws) bs h fits = (
+  rw (length-take-le w bs (omega arith)) at (number-bound (take w bs) (are-octets-take w bs h)),
+  fit-numbers ws (drop w bs) (are-octets-drop w bs h) (simp length-drop (omega arith)),
+)
+
 -- ---- encode and decode
 
--- a record has twelve octets
+-- a record has sixteen octets
 pub length-encode : (r : Rec) → length (encode r) ≡ size
 unfolding encode littles fields size
 length-encode r = simp (length-append, length-little)
@@ -70,7 +79,7 @@ pub decode-encode : (r : Rec) (after : List ℕ) → FitRec r → decode (encode
 unfolding decode encode recordOf fields
 decode-encode r after h = ap recordOf (numbers-littles widths (fields r) after h)
 
--- twelve octets come back from their record
+-- sixteen octets come back from their record
 pub encode-decode : (m : List ℕ) → AreOctets m → size ≤ length m → encode (decode m) ≡ take size m
 unfolding decode encode recordOf fields numbers size total
 encode-decode m h fits = littles-numbers widths m h fits
@@ -86,6 +95,12 @@ decode-take m after h =
 -- ---- FitRec
 
 -- a record fits by its numbers
-pub fit-rec : (r : Rec) → r .station < 2 ^ 32 → r .first < 2 ^ 32 → r .rate < 256 → r .superframes < 256 → r .length < 256 → r .far < 256 → FitRec r
+pub fit-rec : (r : Rec) → r .station < 2 ^ 32 → r .first < 2 ^ 32 → r .rate < 256 → r .superframes < 256 → r .length < 256 → r .far < 256
+    → r .bo < 256 → r .zeros .a < 256 → r .zeros .b < 256 → r .zeros .c < 256 → FitRec r
 unfolding fields
-fit-rec r station first rate superframes length far = omega arith
+fit-rec r station first rate superframes length far bo a b c = omega arith
+
+-- one that sixteen octets say does
+pub fit-decode : (m : List ℕ) → AreOctets m → size ≤ length m → FitRec (decode m)
+unfolding decode recordOf fields numbers size total
+fit-decode m h fits = fit-numbers widths m h fits

@@ -39,7 +39,7 @@ whole-length m h = omega (arith, eqb-true (length m % size) 0 h)
 
 -- ---- image
 
--- twelve octets to a record
+-- sixteen octets to a record
 pub length-image : (rs : List Rec) → length (image rs) ≡ length rs * size
 unfolding image
 length-image [] = sym (zero-mul size)

@@ -4,15 +4,15 @@ use native.Mathlib.Nat.{div-eq-of-eq-mul-left, mul-mod-left, zero-mul}
 use native.Mathlib.Omega.{arith}
 use mathlib.Core.Path.{_≡_, ap, _∙_, sym}
 use mathlib.Core.Bool.{true}
-use mathlib.Core.List.{List, [], _∷_, _++_, map, append-assoc}
+use mathlib.Core.List.{List, [], _∷_, _++_, map, append-assoc, append-nil}
 use lib.Dec.{lit<}
 use lib.ListN.{length, take, drop, replicate, length-append, length-drop, length-map, length-replicate, replicate-append-replicate, take-append-drop}
 use lib.Seq.{drop-at, drop-drop, length-take-le}
 use borrow.Author.Tests.{le-leb, eq-eqb}
-use Rattle.octets.specs.Octets.{AreOctets, zeros}
+use Rattle.octets.specs.Octets.{AreOctets, little, zeros}
 use Rattle.octets.proofs.Zeros.{zeros-replicate, zeros-true}
 use Rattle.record.specs.declared.Rec.{Rec}
-use Rattle.record.specs.Record.{size, AllFit, image, whole, capacity, rest, clearAfter, clearBetween, packed, allRecords, stored}
+use Rattle.record.specs.Record.{size, fields, littles, encode, AllFit, image, whole, capacity, rest, clearAfter, clearBetween, packed, allRecords, stored}
 use Rattle.record.proofs.Images.{same-capacity, whole-length, length-image, image-append, length-allRecords, image-allRecords, allRecords-front, image-take, image-drop}
 use Rattle.record.proofs.Places.{stored-end}
 
@@ -54,8 +54,8 @@ packed-none m w =
     let e : (capacity m - 0) * size ≡ length m = unfold size in omega (arith, whole-length m w) in
     rw e
 
--- 12 zeros to a record
-pub packed-zeros : (cap : ℕ) → packed cap [] ≡ replicate (cap * 12) 0
+-- 16 zeros to a record
+pub packed-zeros : (cap : ℕ) → packed cap [] ≡ replicate (cap * 16) 0
 unfolding packed image size
 packed-zeros cap = let e : cap - 0 ≡ cap = omega arith in rw e
 
@@ -138,3 +138,19 @@ module _ (m : List ℕ) (n : ℕ) (b : AreOctets m) (w : whole m ≡ true) (h : 
       ∙ ap image e
       ∙ image-append (map f (take n (allRecords m))) (drop n (allRecords m))
       ∙ rw (image-drop m b (whole-length m w) n h, tail, k)
+
+-- a memory of one record: its numbers, one after the other
+pub packed-one : (r : Rec)
+    → packed 1 (r ∷ [])
+    ≡ little 4 (r .station)
+    ++ little 4 (r .first)
+    ++ little 1 (r .rate)
+    ++ little 1 (r .superframes)
+    ++ little 1 (r .length)
+    ++ little 1 (r .far)
+    ++ little 1 (r .bo)
+    ++ little 1 (r .zeros .a)
+    ++ little 1 (r .zeros .b)
+    ++ little 1 (r .zeros .c)
+unfolding packed image encode littles fields size
+packed-one r = simp (append-nil, append-assoc)

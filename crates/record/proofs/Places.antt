@@ -1,20 +1,22 @@
 -- Laws of one record in a memory: what is read at its place, and what is written there. Assumes nothing.
 use Prim.Native.Nat.{ℕ, zero, suc, _+_, _-_, _*_, _<_, _≤_}
 use mathlib.Core.Path.{_≡_, refl, sym, ap, _∙_}
-use mathlib.Core.Bool.{Bool, true, false}
+use mathlib.Core.Bool.{Bool, true, false, _&&_, cond}
 use mathlib.Core.List.{List, [], _∷_, _++_, append-assoc, append-nil}
 use native.Mathlib.Nat.{zero-add, add-assoc, add-comm, zero-mul, suc-mul}
+use native.Mathlib.Numerals.{add-one}
 use native.Mathlib.Omega.{arith}
 use borrow.Author.Tests.{ltb-true, ltb-false, lt-ltb, le-ltb}
 use lib.Dec.{ltb}
 use lib.ListN.{length, getD, take, drop, set, length-append, length-drop, drop-of-length-le}
-use lib.Seq.{drop-at, take-add, drop-drop, length-take-le, sets, sets-eq, length-sets}
+use lib.Seq.{take-all, take-suc, take-suc-set, drop-at, take-add, drop-drop, length-take-le, set-out, sets, sets-eq, length-sets}
 use Rattle.octets.specs.Octets.{AreOctets, little, numberAt, putAt}
-use Rattle.octets.proofs.Octets.{numberAt-in, putAt-behind}
+use Rattle.octets.proofs.Octets.{are-octets-drop, numberAt-in, putAt-behind}
+use Rattle.octets.proofs.Refusals.{by-test}
 use Rattle.record.specs.declared.Rec.{Rec}
-use Rattle.record.specs.Record.{size, fields, recordOf, littles, numbers, encode, decode, blank, FitRec, image, capacity, rest, firstRecords, allRecords, stored}
-use Rattle.record.proofs.Fields.{length-encode, decode-encode, decode-take}
-use Rattle.record.proofs.Images.{capacity-fits, same-capacity, image-append, image-take}
+use Rattle.record.specs.Record.{size, fields, recordOf, littles, numbers, encode, decode, blank, FitRec, image, capacity, rest, firstRecords, allRecords, stored, copied}
+use Rattle.record.proofs.Fields.{length-encode, decode-encode, encode-decode, decode-take, fit-decode}
+use Rattle.record.proofs.Images.{capacity-fits, same-capacity, image-append, length-allRecords, image-take}
 
 -- ---- reading record i
 
@@ -42,6 +44,8 @@ pub decode-at : (s : List ℕ) → length s ≡ size
       superframes = numberAt 1 s 9;
       length = numberAt 1 s 10;
       far = numberAt 1 s 11;
+      bo = numberAt 1 s 12;
+      zeros = record { a = numberAt 1 s 13; b = numberAt 1 s 14; c = numberAt 1 s 15 };
     }
 unfolding decode numbers recordOf size
 decode-at s l =
@@ -52,8 +56,12 @@ decode-at s l =
       numberAt-in 1 s 9 (omega arith),
       numberAt-in 1 s 10 (omega arith),
       numberAt-in 1 s 11 (omega arith),
+      numberAt-in 1 s 12 (omega arith),
+      numberAt-in 1 s 13 (omega arith),
+      numberAt-in 1 s 14 (omega arith),
+      numberAt-in 1 s 15 (omega arith),
     )
-    (rw (drop-drop 4 4 s, drop-drop 1 8 s, drop-drop 1 9 s, drop-drop 1 10 s))
+    (rw (drop-drop 4 4 s, drop-drop 1 8 s, drop-drop 1 9 s, drop-drop 1 10 s, drop-drop 1 11 s, drop-drop 1 12 s, drop-drop 1 13 s, drop-drop 1 14 s))
 
 -- ---- writing record i
 
@@ -127,7 +135,8 @@ stored-end m i r h e l =
 
 -- one record's numbers, each written at its place
 pub encode-at : (s : List ℕ) (r : Rec) → length s ≡ size
-    → putAt 1 (putAt 1 (putAt 1 (putAt 1 (putAt 4 (putAt 4 s 0 (r .station)) 4 (r .first)) 8 (r .rate)) 9 (r .superframes)) 10 (r .length)) 11 (r .far) ≡ encode r
+    → let far = putAt 1 (putAt 1 (putAt 1 (putAt 1 (putAt 4 (putAt 4 s 0 (r .station)) 4 (r .first)) 8 (r .rate)) 9 (r .superframes)) 10 (r .length)) 11 (r .far) in
+    putAt 1 (putAt 1 (putAt 1 (putAt 1 far 12 (r .bo)) 13 (r .zeros .a)) 14 (r .zeros .b)) 15 (r .zeros .c) ≡ encode r
 unfolding encode fields littles little size
 encode-at s r l =
     let x₁ = little 4 (r .station) in
@@ -136,6 +145,10 @@ encode-at s r l =
     let x₄ = x₃ ++ little 1 (r .superframes) in
     let x₅ = x₄ ++ little 1 (r .length) in
     let x₆ = x₅ ++ little 1 (r .far) in
+    let x₇ = x₆ ++ little 1 (r .bo) in
+    let x₈ = x₇ ++ little 1 (r .zeros .a) in
+    let x₉ = x₈ ++ little 1 (r .zeros .b) in
+    let x₁₀ = x₉ ++ little 1 (r .zeros .c) in
     rw (
       putAt-behind 4 s [] 0 (r .station) (omega arith),
       putAt-behind 4 s x₁ 0 (r .first) (omega arith),
@@ -143,8 +156,12 @@ encode-at s r l =
       putAt-behind 1 s x₃ 0 (r .superframes) (omega arith),
       putAt-behind 1 s x₄ 0 (r .length) (omega arith),
       putAt-behind 1 s x₅ 0 (r .far) (omega arith),
+      putAt-behind 1 s x₆ 0 (r .bo) (omega arith),
+      putAt-behind 1 s x₇ 0 (r .zeros .a) (omega arith),
+      putAt-behind 1 s x₈ 0 (r .zeros .b) (omega arith),
+      putAt-behind 1 s x₉ 0 (r .zeros .c) (omega arith),
     )
-    (sets-eq x₆ s 0 (omega arith) ∙ rw (drop-of-length-le s {i = size} (omega arith)))
+    (sets-eq x₁₀ s 0 (omega arith) ∙ rw (drop-of-length-le s {i = size} (omega arith)))
 
 -- what a store of record i promises
 pub store-promised : (x m : List ℕ) (i : ℕ) (r : Rec) → FitRec r → i < capacity m → x ≡ take (i * size) m ++ (encode r ++ drop (i * size + size) m)
@@ -152,3 +169,46 @@ pub store-promised : (x m : List ℕ) (i : ℕ) (r : Rec) → FitRec r → i < c
 store-promised x m i r h l p =
     let e = p ∙ sym (sets-encode m i r l) in
     (e ∙ sym (stored-at m i r l), ap allRecords e ∙ set-allRecords m i r h l)
+
+-- ---- writing record i over record k
+
+-- octets copied one at a time: one more
+pub copy-next : (l from : List ℕ) (j : ℕ) → j < length l → j < length from → take j l ≡ take j from
+    → take (j + 1) (set l j (getD from j 0)) ≡ take (j + 1) from
+copy-next l from j h k e = rw (add-one, take-suc-set l j (getD from j 0) h, take-suc from j 0 k, e)
+
+-- all of them
+pub copy-all : (l from : List ℕ) (j : ℕ) → length l ≤ j → length from ≤ j → take j l ≡ take j from → l ≡ from
+copy-all l from j h k e = sym (take-all j l h) ∙ e ∙ take-all j from k
+
+-- with a record among the first n written over, the octets after those stay
+pub rest-copied : (m : List ℕ) (i k n : ℕ) → k < n → rest n (copied m i k) ≡ rest n m
+unfolding copied
+rest-copied m i k n h =
+    by-test (ltb i (capacity m)) (λ e. rw e (rest-stored m k n (getD (allRecords m) i blank) h)) (λ e. rw e)
+
+module _ (m : List ℕ) (i k : ℕ) where
+  -- record i's octets in the place of record k's
+  pub copied-in : (x : List ℕ) → AreOctets m → i < capacity m → k < capacity m
+      → x ≡ take (k * size) m ++ (take size (drop (i * size) m) ++ drop (k * size + size) m)
+      → (x ≡ copied m i k) × (allRecords x ≡ cond (ltb i (capacity m)) (set (allRecords m) k (getD (allRecords m) i blank)) (allRecords m))
+  unfolding copied allRecords
+  copied-in x b h l p =
+      let part = drop (i * size) m in
+      let b′ = are-octets-drop (i * size) m b in
+      let s : size ≤ length part = rw length-drop (unfold capacity size in omega arith) in
+      let r = getD-firstRecords (capacity m) m i blank h in
+      let q = store-promised x m k (decode part) (fit-decode part b′ s) l (rw (encode-decode part b′ s) p) in
+      rw (lt-ltb i (capacity m) h, r) q
+
+  -- where one of them is past the last, nothing is written
+  pub copied-out : (ltb i (capacity m) && ltb k (capacity m)) ≡ false
+      → (m ≡ copied m i k) × (allRecords m ≡ cond (ltb i (capacity m)) (set (allRecords m) k (getD (allRecords m) i blank)) (allRecords m))
+  unfolding copied
+  copied-out e =
+      let r = getD (allRecords m) i blank in
+      by-test (ltb i (capacity m))
+      (λ f.
+      let l = ltb-false k (capacity m) (rw f at e) in
+      (rw (f, stored-out m k r l), rw f (sym (set-out (allRecords m) k r (rw length-allRecords l)))))
+      (λ f. (rw f, rw f))

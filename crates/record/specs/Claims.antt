@@ -6,21 +6,22 @@ use mathlib.Core.List.{List, [], _∷_}
 use lib.ListN.{length as len, take}
 use Rattle.octets.specs.Octets.{AreOctets, zeros}
 use Rattle.record.specs.declared.Rec.{Rec}
-use Rattle.record.specs.Record.{encode, AllFit, image, whole, capacity, rest, packed, allRecords}
+use Rattle.record.specs.Record.{threeZeros, encode, AllFit, image, whole, capacity, rest, packed, allRecords}
 
--- the octets of one record, in 01's order and little-endian: that records come back does not tell
+-- the octets of one record, in the papers' order and little-endian: that records come back does not tell
 abbrev pub OneRecord : Type 0
 OneRecord =
-    encode (record { station = 0x01020304; first = 0x0A0B0C0D; rate = 3; superframes = 2; length = 5; far = 1 })
-    ≡ 0x04 ∷ 0x03 ∷ 0x02 ∷ 0x01 ∷ 0x0D ∷ 0x0C ∷ 0x0B ∷ 0x0A ∷ 3 ∷ 2 ∷ 5 ∷ 1 ∷ []
+    encode
+    (record { station = 0x01020304; first = 0x0A0B0C0D; rate = 3; superframes = 2; length = 5; far = 1; bo = 10; zeros = threeZeros })
+    ≡ 0x04 ∷ 0x03 ∷ 0x02 ∷ 0x01 ∷ 0x0D ∷ 0x0C ∷ 0x0B ∷ 0x0A ∷ 3 ∷ 2 ∷ 5 ∷ 1 ∷ 10 ∷ 0 ∷ 0 ∷ 0 ∷ []
 
 pub record Claims : Type 0 where
   -- records whose numbers fit come back from their octets
   pub written-is-read : (rs : List Rec) → AllFit rs → allRecords (image rs) ≡ rs
   -- the octets of a whole number of records come back from the records
   pub read-is-written : (m : List ℕ) → AreOctets m → whole m ≡ true → image (allRecords m) ≡ m
-  -- 12 octets for each record, and no others
-  pub written-length : (rs : List Rec) → len (image rs) ≡ len rs * 12
+  -- 16 octets for each record, and no others
+  pub written-length : (rs : List Rec) → len (image rs) ≡ len rs * 16
   pub one-record : OneRecord
   -- a packed memory has its capacity, its records, and nothing after them
   pub packed-is-read :

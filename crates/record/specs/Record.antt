@@ -7,25 +7,46 @@ use lib.ListN.{length as len, getD, take, drop, replicate}
 use lib.Seq.{sets}
 use Rattle.octets.specs.Octets.{little, number, zeroFrom}
 use Rattle.record.specs.declared.Rec.{Rec}
+use Rattle.record.specs.declared.Zeros.{Zeros}
 
 -- ---- one record
 
--- records of 12 octets
+-- records of 16 octets
 unfoldable pub size : ℕ
-size = 12
+size = 16
 
--- station (4), first slot (4), rate (1), superframes (1), length (1), far (1)
+-- station (4), first slot (4), rate (1), superframes (1), length (1), far (1), bo (1), three zeros
 abbrev pub widths : List ℕ
-widths = 4 ∷ 4 ∷ 1 ∷ 1 ∷ 1 ∷ 1 ∷ []
+widths = 4 ∷ 4 ∷ 1 ∷ 1 ∷ 1 ∷ 1 ∷ 1 ∷ 1 ∷ 1 ∷ 1 ∷ []
 
 -- the numbers of a record, in this order
 unfoldable pub fields : Rec → List ℕ
-fields r = r .station ∷ r .first ∷ r .rate ∷ r .superframes ∷ r .length ∷ r .far ∷ []
+fields r =
+    r .station
+    ∷ r .first
+    ∷ r .rate
+    ∷ r .superframes
+    ∷ r .length
+    ∷ r .far
+    ∷ r .bo
+    ∷ r .zeros .a
+    ∷ r .zeros .b
+    ∷ r .zeros .c
+    ∷ []
 
 -- the record of numbers in this order
 unfoldable pub recordOf : List ℕ → Rec
 recordOf ns =
-    record { station = getD ns 0 0; first = getD ns 1 0; rate = getD ns 2 0; superframes = getD ns 3 0; length = getD ns 4 0; far = getD ns 5 0 }
+    record {
+      station = getD ns 0 0;
+      first = getD ns 1 0;
+      rate = getD ns 2 0;
+      superframes = getD ns 3 0;
+      length = getD ns 4 0;
+      far = getD ns 5 0;
+      bo = getD ns 6 0;
+      zeros = record { a = getD ns 7 0; b = getD ns 8 0; c = getD ns 9 0 };
+    }
 
 -- numbers little-endian, each in the octets of its width, one after the other
 unfoldable pub littles : List ℕ → List ℕ → List ℕ
@@ -46,9 +67,13 @@ encode r = littles widths (fields r)
 unfoldable pub decode : List ℕ → Rec
 decode bs = recordOf (numbers widths bs)
 
+-- three zeros
+abbrev pub threeZeros : Zeros
+threeZeros = record { a = 0; b = 0; c = 0 }
+
 -- the record of zeros
 unfoldable pub blank : Rec
-blank = record { station = 0; first = 0; rate = 0; superframes = 0; length = 0; far = 0 }
+blank = record { station = 0; first = 0; rate = 0; superframes = 0; length = 0; far = 0; bo = 0; zeros = threeZeros }
 
 -- each number fits the octets of its width
 abbrev pub Fit : List ℕ → List ℕ → Type 0
@@ -111,3 +136,7 @@ allRecords m = firstRecords (capacity m) m
 -- a memory with record i written over; past the last record, as it was
 unfoldable pub stored : List ℕ → ℕ → Rec → List ℕ
 stored m i r = cond (ltb i (capacity m)) (sets m (i * size) (encode r)) m
+
+-- a memory with record i written over record k; where there is no record i, as it was
+unfoldable pub copied : List ℕ → ℕ → ℕ → List ℕ
+copied m i k = cond (ltb i (capacity m)) (stored m k (getD (allRecords m) i blank)) m

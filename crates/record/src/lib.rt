@@ -1,15 +1,25 @@
-// Records in lent memory, 12 octets each. Nothing above this crate knows how they lie there.
+// Records in lent memory, 16 octets each. Nothing above this crate knows how they lie there.
 ghost use mathlib.Core.Path.{_≡_};
+ghost use mathlib.Core.Bool.{cond};
+ghost use lib.Dec.{ltb};
 ghost use Prim.Native.Nat.{_<_, _≤_, min};
 ghost use lib.ListN.{length, getD, set, take};
 ghost use Rattle.octets.specs.Octets.{zeros};
-ghost use Rattle.record.specs.Record.{size, encode, decode, blank, whole, capacity, rest, clearAfter, clearBetween, allRecords, stored};
+ghost use Rattle.record.specs.Record.{size, encode, decode, blank, whole, capacity, rest, clearAfter, clearBetween, allRecords, stored, copied};
 ghost use Rattle.record.specs.Claims.{Claims};
 
 // The octets of a record.
-pub const SIZE: usize = 12;
+pub const SIZE: usize = 16;
 
-// A record of the table. It is laid out as in C: it crosses to a C host as it is.
+// The three octets behind bo.
+#[repr(C)]
+pub struct Zeros {
+    pub a: u8,
+    pub b: u8,
+    pub c: u8,
+}
+
+// A record of the table; bo is its octet. It is laid out as in C: it crosses to a C host as it is.
 #[repr(C)]
 pub struct Rec {
     pub station: u32,
@@ -18,6 +28,8 @@ pub struct Rec {
     pub superframes: u8,
     pub length: u8,
     pub far: u8,
+    pub bo: u8,
+    pub zeros: Zeros,
 }
 
 // The record that the octets of one say.
@@ -32,6 +44,12 @@ fn decoded(s: &[u8]) -> Rec
         superframes: octets::octet_at(s, 9),
         length: octets::octet_at(s, 10),
         far: octets::octet_at(s, 11),
+        bo: octets::octet_at(s, 12),
+        zeros: Zeros {
+            a: octets::octet_at(s, 13),
+            b: octets::octet_at(s, 14),
+            c: octets::octet_at(s, 15),
+        },
     }
 }
 
@@ -46,6 +64,10 @@ fn encode_over(s: &mut [u8], r: Rec)
     octets::put_octet(s, 9, r.superframes);
     octets::put_octet(s, 10, r.length);
     octets::put_octet(s, 11, r.far);
+    octets::put_octet(s, 12, r.bo);
+    octets::put_octet(s, 13, r.zeros.a);
+    octets::put_octet(s, 14, r.zeros.b);
+    octets::put_octet(s, 15, r.zeros.c);
 }
 
 // Record i of those that the memory has room for. Its octets are a part of the memory, of a length that the compiler knows.
@@ -67,6 +89,32 @@ fn store_at(memory: &mut [u8], i: usize, r: Rec)
     let a = i * SIZE;
     let e = a + SIZE;
     encode_over(&mut memory[a..e], r);
+}
+
+// The octets of one record, by value.
+fn octets_of(s: &[u8]) -> [u8; SIZE]
+    requires { ⌜ length (now s) ≡ size ⌝ }
+    ensures { λ o. ⌜ o ≡ now (s .entry) ⌝ }
+{
+    let mut o = [0u8; SIZE];
+    let mut j = 0;
+    while j < SIZE {
+        o[j] = s[j];
+        j += 1;
+    }
+    o
+}
+
+// Writes them over those of another.
+fn octets_over(s: &mut [u8], o: [u8; SIZE])
+    requires { ⌜ length (now s) ≡ size ⌝ }
+    ensures { λ _. ⌜ now (s .exit) ≡ o ⌝ }
+{
+    let mut j = 0;
+    while j < SIZE {
+        s[j] = o[j];
+        j += 1;
+    }
 }
 
 // Whether a memory is a whole number of records.
@@ -137,6 +185,8 @@ pub fn load(memory: &[u8], i: usize) -> Rec
         superframes: 0,
         length: 0,
         far: 0,
+        bo: 0,
+        zeros: Zeros { a: 0, b: 0, c: 0 },
     }
 }
 
@@ -147,6 +197,23 @@ pub fn store(memory: &mut [u8], i: usize, r: Rec)
 {
     if i < memory.len() / SIZE {
         store_at(memory, i, r);
+    }
+}
+
+// Writes record i over record k; where one of them is past the last, nothing is written. All octets are read before one is written: so they are
+// moved as one.
+pub fn copy(memory: &mut [u8], i: usize, k: usize)
+    ensures octets { λ _. ⌜ now (memory .exit) ≡ copied (now (memory .entry)) i k ⌝ }
+    ensures records { λ _. ⌜ allRecords (now (memory .exit)) ≡ cond (ltb i (capacity (now (memory .entry)))) (set (allRecords (now (memory .entry))) k (getD (allRecords (now (memory .entry))) i blank)) (allRecords (now (memory .entry))) ⌝ }
+{
+    let all = memory.len() / SIZE;
+    if (i < all) & (k < all) {
+        let a = i * SIZE;
+        let e = a + SIZE;
+        let o = octets_of(&memory[a..e]);
+        let b = k * SIZE;
+        let f = b + SIZE;
+        octets_over(&mut memory[b..f], o);
     }
 }
 

@@ -1,11 +1,12 @@
 -- Laws of `someBelow`. Assumes nothing.
 use Prim.Native.Nat.{ℕ, zero, suc, _<_}
-use mathlib.Core.Path.{_≡_, refl, sym, _∙_}
+use mathlib.Core.Path.{_≡_, refl}
 use mathlib.Core.Bool.{Bool, true, false, _||_, or-true, false≢true}
 use mathlib.Core.Logic.{⊎-elim}
 use native.Mathlib.Omega.{arith}
 use native.Mathlib.Nat.{eq-or-lt-of-le}
 use Rattle.series.specs.Series.{someBelow}
+use Rattle.series.proofs.Tests.{agree}
 
 -- one that passes is enough
 pub someBelow-at : (n : ℕ) (p : ℕ → Bool) (k : ℕ) → k < n → p k ≡ true → someBelow n p ≡ true
@@ -27,9 +28,4 @@ someBelow-elim {X} (suc n) p f h = go (someBelow n p) (p n) refl refl h (someBel
 
 -- one that passes wherever another does tells of all
 pub someBelow-one : (n : ℕ) (p : ℕ → Bool) (k : ℕ) → k < n → ((i : ℕ) → i < n → p i ≡ true → p k ≡ true) → someBelow n p ≡ p k
-someBelow-one n p k l f = go (p k) (someBelow n p) refl refl
-  where
-    go : (a b : Bool) → p k ≡ a → someBelow n p ≡ b → b ≡ a
-    go true b e s = sym s ∙ someBelow-at n p k l e
-    go false true e s = absurd (false≢true (sym e ∙ someBelow-elim n p f s))
-    go false false e s = refl
+someBelow-one n p k l f = agree (someBelow n p) (p k) (someBelow-elim n p f) (someBelow-at n p k l)

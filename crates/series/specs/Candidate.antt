@@ -1,4 +1,4 @@
--- The one block of a record that could hold a slot, worked out by division (document 02, No. 3).
+-- The one block of a series that could hold a slot, worked out by division (document 02, No. 3).
 use Prim.Native.Nat.{ℕ, _-_, _*_, _/_, min}
 use Rattle.record.specs.declared.Rec.{Rec}
 
@@ -6,10 +6,10 @@ use Rattle.record.specs.declared.Rec.{Rec}
 unfoldable pub lastStarted : ℕ → ℕ → ℕ → ℕ
 lastStarted most step x = min most (x / step)
 
--- the last of a record's superframes that has started by a slot
-abbrev pub superframeBy : ℕ → Rec → ℕ → ℕ
-superframeBy m1 r slot = lastStarted (r .superframes - 1) m1 (slot - r .first)
+-- the last of a series' superframes that has started, so many slots after the series did
+abbrev pub superframeBy : ℕ → ℕ → ℕ → ℕ
+superframeBy m1 superframes since = lastStarted (superframes - 1) m1 since
 
 -- and the last of that superframe's blocks that has
-abbrev pub blockBy : ℕ → Rec → ℕ → ℕ
-blockBy m1 r slot = lastStarted (r .rate - 1) (m1 / r .rate) (slot - r .first - superframeBy m1 r slot * m1)
+abbrev pub blockBy : ℕ → Rec → ℕ → ℕ → ℕ
+blockBy m1 r superframes since = lastStarted (r .rate - 1) (m1 / r .rate) (since - superframeBy m1 superframes since * m1)

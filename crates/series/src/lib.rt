@@ -1,8 +1,10 @@
 // The block series of a record: which slots it reserves, and its last one.
 use record::Rec;
 ghost use mathlib.Core.Path.{_≡_};
-ghost use Prim.Native.Nat.{_-_, _*_, _/_, _≤_, min};
-ghost use Rattle.series.specs.Series.{reserves, lastSlot};
+ghost use mathlib.Core.Bool.{cond};
+ghost use Prim.Native.Nat.{_+_, _-_, _*_, _/_, _≤_, min};
+ghost use lib.Dec.{eqb};
+ghost use Rattle.series.specs.Series.{inSeries, furtherFrom, reserves, lastSlot};
 ghost use Rattle.series.specs.Candidate.{lastStarted};
 ghost use Rattle.series.specs.Steps.{lessStep};
 ghost use Rattle.series.specs.Claims.{Claims};
@@ -82,34 +84,68 @@ fn since_superframe(most: u64, m1: u64, x: u64) -> u64
     since_last(most, m1, x)
 }
 
-// Whether a record reserves a slot: the last block that has started by it, in the last superframe that has, tells.
-// An earlier block ends no later, since all have one length.
-pub fn reserves(r: Rec, m1: u32, slot: u32) -> bool
-    ensures { λ b. ⌜ b ≡ reserves m1 r slot ⌝ }
+// Whether a series of a record's blocks, from a slot on in so many superframes, has a slot: the last block that has started by it, in the last
+// superframe that has, tells. An earlier block ends no later, since all have one length.
+fn in_series(r: Rec, m: u64, from: u64, superframes: u64, slot: u64) -> bool
+    ensures { λ b. ⌜ b ≡ inSeries m r from superframes slot ⌝ }
 {
-    let m = m1 as u64;
-    let s = slot as u64;
-    let first = r.first as u64;
-    let superframes = r.superframes as u64;
     let rate = r.rate as u64;
     let length = r.length as u64;
-    if (0 < superframes) & (0 < rate) & (first <= s) {
-        let into_superframe = since_superframe(superframes - 1, m, s - first);
+    if (0 < superframes) & (0 < rate) & (from <= slot) {
+        let into_superframe = since_superframe(superframes - 1, m, slot - from);
         let into_block = since_last(rate - 1, quotient(m, rate), into_superframe);
         return into_block < length;
     }
     false
 }
 
-// The last slot that a record reserves.
+// Where the further series begins, and 128.
+pub fn further_from(r: Rec, m1: u32) -> u64
+    ensures { λ n. ⌜ (n ≡ furtherFrom m1 r) × (n ≤ 1099511627775) ⌝ }
+{
+    r.first as u64 + times(r.superframes as u64, m1 as u64) + octets::lifted(r.bo) as u64
+}
+
+// Whether a record reserves a slot.
+pub fn reserves(r: Rec, m1: u32, slot: u32) -> bool
+    ensures { λ b. ⌜ b ≡ reserves m1 r slot ⌝ }
+{
+    let m = m1 as u64;
+    let s = slot as u64;
+    if in_series(r, m, r.first as u64, r.superframes as u64, s) {
+        return true;
+    }
+    if r.bo == 0 {
+        return false;
+    }
+    in_series(r, m, further_from(r, m1), 1, s + 128)
+}
+
+// How much later the further series ends than the first, by how much later it begins than the first one's last superframe, and 128: 0 where there
+// is none, or it ends no later.
+pub fn later_by(bo: u8, next: u64) -> u64
+    ensures { λ n. ⌜ (n ≡ cond (eqb bo 0) 0 (next - 128)) × (n ≤ next) ⌝ }
+{
+    if (bo == 0) | (next < 128) {
+        return 0;
+    }
+    next - 128
+}
+
+// The last slot that a record reserves: the later of its two series' ends, which have blocks alike.
 pub fn last_slot(r: Rec, m1: u32) -> u64
     ensures { λ s. ⌜ s ≡ lastSlot m1 r ⌝ }
 {
     let m = m1 as u64;
     let rate = r.rate as u64;
-    let superframes = times(less_one(r.superframes as u64), m);
-    let blocks = to_block(less_one(rate), m, rate);
-    less_one(r.first as u64 + superframes + blocks + r.length as u64)
+    let superframes = r.superframes as u64;
+    let first = r.first as u64;
+    let lifted = octets::lifted(r.bo) as u64;
+    let run = to_block(less_one(rate), m, rate) + r.length as u64;
+    if superframes == 0 {
+        return less_one(first + run + later_by(r.bo, lifted));
+    }
+    less_one(first + times(superframes - 1, m) + run + later_by(r.bo, m + lifted))
 }
 
 // What this crate claims over its promises.

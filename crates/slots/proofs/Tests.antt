@@ -6,18 +6,8 @@ use mathlib.Core.Bool.{Bool, true, false, _&&_, _||_, and-true, and-false}
 use lib.Dec.{leb, ltb}
 use borrow.Author.Tests.{leb-true, leb-false, ltb-true, ltb-false, le-leb, lt-ltb, le-ltb}
 use Rattle.series.specs.Series.{inBlock}
+use Rattle.series.proofs.Tests.{agree, ltb-same}
 use Rattle.slots.specs.Steps.{fromUpTo}
-
--- a test that cannot pass fails
-pub fails : (a : Bool) → (a ≡ true → ⊥) → a ≡ false
-fails true f = absurd (f refl)
-fails false f = refl
-
--- two tests of which each passes where the other does
-pub agree : (a b : Bool) → (a ≡ true → b ≡ true) → (b ≡ true → a ≡ true) → a ≡ b
-agree true b f g = sym (f refl)
-agree false true f g = g refl
-agree false false f g = refl
 
 -- a test that passes where another does adds nothing to it
 pub and-within : (a b : Bool) → (b ≡ true → a ≡ true) → (a && b) ≡ b
@@ -27,9 +17,6 @@ and-within a false f = and-false a
 -- two orders that say the same
 leb-same : (a b c d : ℕ) → (a ≤ b → c ≤ d) → (c ≤ d → a ≤ b) → leb a b ≡ leb c d
 leb-same a b c d f g = agree (leb a b) (leb c d) (λ h. le-leb c d (f (leb-true a b h))) (λ h. le-leb a b (g (leb-true c d h)))
-
-pub ltb-same : (a b c d : ℕ) → (a < b → c < d) → (c < d → a < b) → ltb a b ≡ ltb c d
-ltb-same a b c d f g = agree (ltb a b) (ltb c d) (λ h. lt-ltb c d (f (ltb-true a b h))) (λ h. lt-ltb a b (g (ltb-true c d h)))
 
 -- the places of a window from lo up to an end that a block holds
 pub fromUpTo-block : (lo end start length i : ℕ) → i < end - lo → fromUpTo (start - lo) (min (start + length) end - lo) i ≡ inBlock start length (lo + i)

@@ -1,5 +1,5 @@
 -- What the private functions ask and promise: the code's own steps. Nothing that a caller of the crate has to believe.
-use Prim.Native.Nat.{ℕ, _+_, _-_, _*_, _≤_, _<_, max}
+use Prim.Native.Nat.{ℕ, _+_, _-_, _*_, _/_, _≤_, _<_, max}
 use mathlib.Core.Path.{_≡_}
 use mathlib.Core.Bool.{Bool, false, cond, not, _&&_, _||_}
 use mathlib.Core.List.{List}
@@ -8,7 +8,7 @@ use lib.ListN.{length, getD}
 use lib.Seq.{slice}
 use Rattle.record.specs.declared.Rec.{Rec}
 use Rattle.record.specs.Record.{allRecords}
-use Rattle.series.specs.Series.{someBelow, inBlock, reserves}
+use Rattle.series.specs.Series.{someBelow, inBlock, hasFurther, furtherFrom, reserves}
 use Rattle.slots.specs.declared.Series.{Series}
 use Rattle.slots.specs.Slots.{recordFar}
 use Rattle.slots.specs.Window.{slotStateNumber}
@@ -37,11 +37,6 @@ firstBefore stop s n slot = someBelow n (λ j. ltb (s .start + j * s .spacing) s
 abbrev pub holdsBefore : ℕ → Series → ℕ → Bool
 holdsBefore stop s slot = firstBefore stop s (s .blocks) slot
 
--- one of its blocks in so many superframes of m1 slots does
-abbrev pub holdsIn : ℕ → ℕ → Series → ℕ → Bool
-holdsIn m1 superframes s slot =
-    someBelow superframes (λ k. someBelow (s .blocks) (λ j. inBlock (s .start + k * m1 + j * s .spacing) (s .length) slot))
-
 -- the series without its first n blocks
 abbrev pub after : Series → ℕ → Series
 after s n = record { start = s .start + n * s .spacing; spacing = s .spacing; blocks = s .blocks - n; length = s .length }
@@ -68,6 +63,24 @@ pub record Left (lo : ℕ) (s r : Series) : Type 0 where
   pub spaced : r .spacing ≡ s .spacing
   pub ends : r .start + r .blocks * s .spacing ≡ s .start + s .blocks * s .spacing
   pub parts : (slot : ℕ) → lo ≤ slot → (firstHold s (s .blocks - r .blocks) slot || holds r slot) ≡ holds s slot
+
+-- ---- a record's superframes, with 128 added to every slot
+
+-- where superframe k of its blocks starts: the further one comes behind the others
+abbrev pub superframeAt : ℕ → Rec → ℕ → ℕ
+superframeAt m1 r k = cond (ltb k (r .superframes)) (r .first + k * m1 + 128) (furtherFrom m1 r)
+
+-- how many it has
+abbrev pub superframesOf : Rec → ℕ
+superframesOf r = cond (hasFurther r) (r .superframes + 1) (r .superframes)
+
+-- the blocks of superframe k
+abbrev pub superframeOf : ℕ → Rec → ℕ → Series
+superframeOf m1 r k = record { start = superframeAt m1 r k; spacing = m1 / r .rate; blocks = r .rate; length = r .length }
+
+-- one of them all holds a slot
+abbrev pub heldLifted : ℕ → Rec → ℕ → Bool
+heldLifted m1 r slot = someBelow (superframesOf r) (λ k. holds (superframeOf m1 r k) slot)
 
 -- ---- marks
 

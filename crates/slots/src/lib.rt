@@ -2,8 +2,9 @@
 use record::Rec;
 use table::State;
 ghost use mathlib.Core.Path.{_≡_};
-ghost use mathlib.Core.Bool.{true};
-ghost use Prim.Native.Nat.{_+_, _-_, _*_, _≤_, _<_, min, max};
+ghost use mathlib.Core.Bool.{true, false, _&&_};
+ghost use Prim.Native.Nat.{ℕ, _+_, _-_, _*_, _/_, _≤_, _<_, min, max};
+ghost use lib.Dec.{leb, ltb};
 ghost use lib.ListN.{length as len};
 ghost use Rattle.octets.specs.Octets.{zeroFrom, holdsOnly};
 ghost use Rattle.record.specs.Record.{capacity};
@@ -12,7 +13,7 @@ ghost use Rattle.sound.specs.Sound.{records};
 ghost use Rattle.table.specs.Memory.{channel};
 ghost use Rattle.slots.specs.Slots.{slotState, slotAnswer};
 ghost use Rattle.slots.specs.Window.{windowStates, windowSlots, raised};
-ghost use Rattle.slots.specs.Steps.{holdsMore, markOf, firstHold, holds, holdsBefore, holdsIn, after, recordsFrom, Small, Skips, Left, MarkedWhere, fromUpTo, WindowFits, Raised, AtLeast};
+ghost use Rattle.slots.specs.Steps.{holdsMore, markOf, firstHold, holds, holdsBefore, after, superframeAt, superframesOf, heldLifted, recordsFrom, Small, Skips, Left, MarkedWhere, fromUpTo, WindowFits, Raised, AtLeast};
 ghost use Rattle.slots.specs.Claims.{Claims};
 
 // A slot's state.
@@ -148,12 +149,20 @@ fn less(a: u64, b: u64) -> u64
     a - b
 }
 
-// How far a is ahead of b. Where it is behind, the processor's subtraction gives a number above all others here, and only the time goes by
-// that.
+// How far a is ahead of b. Where it is behind, the processor's subtraction gives a number above all others here.
 fn ahead_of(a: u64, b: u64) -> u64
-    ensures { λ r. ⌜ (b ≤ a → r ≡ a - b) ⌝ }
+    ensures { λ r. ⌜ (b ≤ a → r ≡ a - b) × (a < b → r ≡ a + 18446744073709551616 - b) ⌝ }
 {
     std::num::wrapping_sub_u64(a, b)
+}
+
+// Whether so many slots from a start on reach a window from lo up to an end, by one test: their end is ahead of lo by less than both are wide. Where
+// it is behind, it is ahead by more than that. Apart, the first of two tests would often be guessed wrong.
+fn reaches(lo: u64, end: u64, start: u64, width: u64) -> bool
+    requires { ⌜ (lo ≤ end) × (start ≤ 4398046511104) × (width ≤ 4398046511104) × (end + width ≤ lo + 18446744073709551615) ⌝ }
+    ensures { λ b. ⌜ b ≡ (leb lo (start + width) && ltb start end) ⌝ }
+{
+    ahead_of(start + width, lo) < end - lo + width
 }
 
 // A product that stays small.
@@ -279,55 +288,12 @@ fn mark_begun(out: &mut [u8], lo: u64, s: Series, mark: u8, width: u8) -> Series
 // Marks the blocks of a series that lie apart, of at most so many slots each as they are wide. Where they end is worked out before how many are
 // left out, which takes a division.
 fn mark_apart(out: &mut [u8], lo: u64, end: u64, s: Series, mark: u8, width: u8)
-    requires { ⌜ Small s × (0 < s .blocks) × (s .length < s .spacing) × (s .length ≤ width) × (width ≤ 32) × (lo < s .start + (s .blocks - 1) * s .spacing + s .length) × WindowFits lo end (now out) × (mark ≤ 2) ⌝ }
+    requires { ⌜ Small s × (0 < s .blocks) × (s .length < s .spacing) × (s .length ≤ width) × (width ≤ 32) × (lo ≤ s .start + (s .blocks - 1) * s .spacing + s .length) × WindowFits lo end (now out) × (mark ≤ 2) ⌝ }
     ensures { λ _. ⌜ MarkedWhere (end - lo) mark (λ i. holds s (lo + i)) (now (out .entry)) (now (out .exit)) ⌝ }
 {
     let stop = lesser(s.start + run_of(s), end);
     let left = mark_begun(out, lo, s, mark, width);
     mark_ahead(out, lo, stop, left, mark, width);
-}
-
-// The same in one superframe, by the narrower of two widths that the length allows. Where the series is over before lo nothing is divided.
-fn mark_superframe(out: &mut [u8], lo: u64, end: u64, s: Series, mark: u8)
-    requires { ⌜ Small s × (0 < s .blocks) × (s .length < s .spacing) × (s .length ≤ 32) × WindowFits lo end (now out) × (mark ≤ 2) ⌝ }
-    ensures { λ _. ⌜ MarkedWhere (end - lo) mark (λ i. holds s (lo + i)) (now (out .entry)) (now (out .exit)) ⌝ }
-{
-    if s.start + run_of(s) <= lo {
-        return;
-    }
-    if s.length <= 16 {
-        mark_apart(out, lo, end, s, mark, 16);
-        return;
-    }
-    mark_apart(out, lo, end, s, mark, 32);
-}
-
-// Marks a series of such blocks in so many superframes of m1 slots, one after the other, up to the end.
-fn mark_superframes(
-    out: &mut [u8],
-    lo: u64,
-    end: u64,
-    m1: u64,
-    superframes: u64,
-    s: Series,
-    mark: u8,
-)
-    requires { ⌜ WindowFits lo end (now out) × (m1 ≤ 4294967295) × (superframes ≤ 255) × (s .start ≤ 4294967295) × (s .spacing ≤ 4294967295) × (s .blocks ≤ 255) × (0 < s .blocks) × (s .length < s .spacing) × (s .length ≤ 32) × (mark ≤ 2) ⌝ }
-    ensures { λ _. ⌜ MarkedWhere (end - lo) mark (λ i. holdsIn m1 superframes s (lo + i)) (now (out .entry)) (now (out .exit)) ⌝ }
-{
-    let mut start = s.start;
-    let mut k = 0;
-    while (k < superframes) & (start < end) {
-        let one = Series {
-            start,
-            spacing: s.spacing,
-            blocks: s.blocks,
-            length: s.length,
-        };
-        mark_superframe(out, lo, end, one, mark);
-        start += m1;
-        k += 1;
-    }
 }
 
 // Marks block after block.
@@ -356,50 +322,24 @@ fn mark_any(out: &mut [u8], lo: u64, end: u64, s: Series, mark: u8)
     mark_each(out, lo, end, s, mark);
 }
 
-// Marks such a series in so many superframes of m1 slots.
-fn mark_any_superframes(
-    out: &mut [u8],
-    lo: u64,
-    end: u64,
-    m1: u64,
-    superframes: u64,
-    s: Series,
-    mark: u8,
-)
-    requires { ⌜ WindowFits lo end (now out) × (m1 ≤ 4294967295) × (superframes ≤ 255) × (s .start ≤ 4294967295) × (s .spacing ≤ 4294967295) × (s .blocks ≤ 255) × (0 < s .blocks) × (s .length ≤ 255) ⌝ }
-    ensures { λ _. ⌜ MarkedWhere (end - lo) mark (λ i. holdsIn m1 superframes s (lo + i)) (now (out .entry)) (now (out .exit)) ⌝ }
+// Marks a series of blocks. Those that touch, or are of more than 32 slots, which no sound table has, go a way of their own; others go by the narrower of
+// two widths that their length allows.
+fn mark_series(out: &mut [u8], lo: u64, end: u64, s: Series, mark: u8)
+    requires { ⌜ WindowFits lo end (now out) × Small s × (0 < s .blocks) × (mark ≤ 2) ⌝ }
+    ensures { λ _. ⌜ MarkedWhere (end - lo) mark (λ i. holds s (lo + i)) (now (out .entry)) (now (out .exit)) ⌝ }
 {
-    let mut start = s.start;
-    let mut k = 0;
-    while k < superframes {
-        let one = Series {
-            start,
-            spacing: s.spacing,
-            blocks: s.blocks,
-            length: s.length,
-        };
-        mark_any(out, lo, end, one, mark);
-        start += m1;
-        k += 1;
-    }
-}
-
-// Marks a series of blocks in so many superframes of m1 slots. One that starts past the end or is over before lo is left by one test, as its end
-// is ahead of lo by no less than both are wide, or behind it: apart, the first of two tests would often be guessed wrong. Blocks that touch, or of
-// more than 32 slots, which no sound table has, go a way of their own.
-fn mark_series(out: &mut [u8], lo: u64, end: u64, m1: u64, superframes: u64, s: Series, mark: u8)
-    requires { ⌜ WindowFits lo end (now out) × (m1 ≤ 4294967295) × (0 < superframes) × (superframes ≤ 255) × (s .start ≤ 4294967295) × (s .spacing ≤ 4294967295) × (0 < s .blocks) × (s .blocks ≤ 255) × (s .length ≤ 255) × (mark ≤ 2) ⌝ }
-    ensures { λ _. ⌜ MarkedWhere (end - lo) mark (λ i. holdsIn m1 superframes s (lo + i)) (now (out .entry)) (now (out .exit)) ⌝ }
-{
-    let width = times(superframes - 1, m1) + run_of(s);
-    if end - lo + width <= ahead_of(s.start + width, lo) {
+    if !reaches(lo, end, s.start, run_of(s)) {
         return;
     }
     if (s.spacing <= s.length) | (32 < s.length) {
-        mark_any_superframes(out, lo, end, m1, superframes, s, mark);
+        mark_any(out, lo, end, s, mark);
         return;
     }
-    mark_superframes(out, lo, end, m1, superframes, s, mark);
+    if s.length <= 16 {
+        mark_apart(out, lo, end, s, mark, 16);
+        return;
+    }
+    mark_apart(out, lo, end, s, mark, 32);
 }
 
 // ---- the records
@@ -414,31 +354,79 @@ fn mark_of(far: u8) -> u8
     2
 }
 
-// Marks the slots that a record reserves: none where it has no block.
+// Where superframe k of a record's blocks starts, and 128: the further one comes behind the others.
+fn superframe_at(r: Rec, m1: u32, k: u64) -> u64
+    requires { ⌜ k ≤ 255 ⌝ }
+    ensures { λ n. ⌜ (n ≡ superframeAt m1 r k) × (n ≤ 1099511627775) ⌝ }
+{
+    if k < r.superframes as u64 {
+        return r.first as u64 + times(k, m1 as u64) + 128;
+    }
+    series::further_from(r, m1)
+}
+
+// How many superframes of blocks it has.
+fn superframes_of(r: Rec) -> u64
+    ensures { λ n. ⌜ (n ≡ superframesOf r) × (n ≤ 256) ⌝ }
+{
+    if r.bo == 0 {
+        return r.superframes as u64;
+    }
+    r.superframes as u64 + 1
+}
+
+// Whether neither the superframes of a record from first on, taken as one, nor the further one reach a window whose slots have 128 added too. All is
+// worked out, as a branch by bo would often be guessed wrong.
+fn is_apart(lo: u64, end: u64, m1: u32, r: Rec, spacing: u64) -> bool
+    requires { ⌜ (lo ≤ end) × (0 < r .rate) × (spacing ≡ m1 / r .rate) × (end + 2199023255552 ≤ lo + 18446744073709551615) ⌝ }
+    ensures { λ b. ⌜ (b ≡ true → ((slot : ℕ) → lo ≤ slot → slot < end → heldLifted m1 r slot ≡ false)) ⌝ }
+{
+    let run = times(r.rate as u64 - 1, spacing) + r.length as u64;
+    let width = times(less(r.superframes as u64, 1), m1 as u64) + run;
+    let own = reaches(lo, end, r.first as u64 + 128, width);
+    let further = reaches(lo, end, series::further_from(r, m1), run) & (r.bo != 0);
+    !(own | further)
+}
+
+// Marks the blocks of a record's superframes, in a window whose slots have 128 added too.
+fn mark_superframes(out: &mut [u8], lo: u64, end: u64, m1: u32, r: Rec, spacing: u64)
+    requires { ⌜ WindowFits lo end (now out) × (0 < r .rate) × (spacing ≡ m1 / r .rate) ⌝ }
+    ensures { λ _. ⌜ MarkedWhere (end - lo) (markOf (r .far)) (λ i. heldLifted m1 r (lo + i)) (now (out .entry)) (now (out .exit)) ⌝ }
+{
+    if is_apart(lo, end, m1, r, spacing) {
+        return;
+    }
+    let n = superframes_of(r);
+    let mut k = 0;
+    while k < n {
+        let s = Series {
+            start: superframe_at(r, m1, k),
+            spacing,
+            blocks: r.rate as u64,
+            length: r.length as u64,
+        };
+        mark_series(out, lo, end, s, mark_of(r.far));
+        k += 1;
+    }
+}
+
+// Marks the slots that a record reserves: none where it has no block. 128 is added to all of them, as the further superframe may begin below 0.
 fn mark_record(out: &mut [u8], lo: u64, end: u64, m1: u32, r: Rec)
-    requires { ⌜ WindowFits lo end (now out) ⌝ }
+    requires { ⌜ WindowFits lo end (now out) × (lo ≤ 4294967295) ⌝ }
     ensures { λ _. ⌜ MarkedWhere (end - lo) (markOf (r .far)) (λ i. reserves m1 r (lo + i)) (now (out .entry)) (now (out .exit)) ⌝ }
 {
     let rate = r.rate as u64;
-    let superframes = r.superframes as u64;
-    if (rate < 1) | (superframes < 1) {
+    if rate < 1 {
         return;
     }
-    let m = m1 as u64;
-    let s = Series {
-        start: r.first as u64,
-        spacing: m / rate,
-        blocks: rate,
-        length: r.length as u64,
-    };
-    mark_series(out, lo, end, m, superframes, s, mark_of(r.far));
+    mark_superframes(out, lo + 128, end + 128, m1, r, m1 as u64 / rate);
 }
 
 // ---- the slot states of a window
 
 // Marks the slots that a record reserves, unless it is far and no slot is free: it changes nothing then.
 fn mark_needed(out: &mut [u8], lo: u64, end: u64, m1: u32, r: Rec, full: bool)
-    requires { ⌜ WindowFits lo end (now out) × (full ≡ true → AtLeast (end - lo) 1 (now out)) ⌝ }
+    requires { ⌜ WindowFits lo end (now out) × (lo ≤ 4294967295) × (full ≡ true → AtLeast (end - lo) 1 (now out)) ⌝ }
     ensures { λ _. ⌜ MarkedWhere (end - lo) (markOf (r .far)) (λ i. reserves m1 r (lo + i)) (now (out .entry)) (now (out .exit)) ⌝ }
 {
     let far = r.far == 1;
@@ -459,7 +447,7 @@ fn mark_some(
     n: usize,
     full: bool,
 )
-    requires { ⌜ WindowFits lo end (now out) × (n ≤ capacity (now memory)) × (full ≡ true → AtLeast (end - lo) 1 (now out)) ⌝ }
+    requires { ⌜ WindowFits lo end (now out) × (lo ≤ 4294967295) × (n ≤ capacity (now memory)) × (full ≡ true → AtLeast (end - lo) 1 (now out)) ⌝ }
     ensures { λ _. ⌜ Raised (end - lo) m1 (recordsFrom i n (now (memory .entry))) lo (now (out .entry)) (now (out .exit)) ⌝ }
 {
     let mut k = i;

@@ -1,8 +1,8 @@
 -- The lent memory with the numbers beside it: which records are good, and what a sound table is.
 use Prim.Native.Nat.{ℕ, _^_}
-use mathlib.Core.Bool.{Bool, _&&_}
-use mathlib.Core.List.{List}
-use lib.Dec.{leb, ltb}
+use mathlib.Core.Bool.{Bool, not, _&&_}
+use mathlib.Core.List.{List, [], _∷_}
+use lib.Dec.{leb, ltb, eqb}
 use lib.ListN.{take}
 use Rattle.octets.specs.Lists.{every}
 use Rattle.octets.specs.Refusals.{within}
@@ -10,7 +10,7 @@ use Rattle.octets.specs.Octets.{zeros}
 use Rattle.codec.specs.Parameters.{m1Row, fits}
 use Rattle.record.specs.Record.{capacity, whole, rest, allRecords}
 use Rattle.record.specs.declared.Rec.{Rec}
-use Rattle.series.specs.Series.{lastSlot}
+use Rattle.series.specs.Series.{furtherBefore, lastSlot}
 
 -- a channel: the state M1, now, count, and the lent octets
 pub record Channel : Type 0 where
@@ -25,7 +25,7 @@ records m = take (m .count) (allRecords (m .memory))
 
 -- ---- a good record
 
--- station below 2^27, first at most 1,000,000,255, rate 1..60, superframes 1..3, length 1..32, far 0 or 1
+-- station below 2^27, first at most 1,000,000,255, rate 1..60, superframes 1..3, length 1..32, far 0 or 1, bo an octet but 128, zeros 0
 unfoldable pub inRange : Rec → Bool
 inRange r =
     ltb (r .station) (2 ^ 27)
@@ -34,6 +34,13 @@ inRange r =
     && within 1 3 (r .superframes)
     && within 1 32 (r .length)
     && leb (r .far) 1
+    && ltb (r .bo) 256
+    && not (eqb (r .bo) 128)
+    && zeros (r .zeros .a ∷ r .zeros .b ∷ r .zeros .c ∷ [])
+
+-- no further series below slot 0
+abbrev pub notBelow0 : ℕ → Rec → Bool
+notBelow0 m1 r = not (furtherBefore m1 r 0)
 
 -- last slot not before now
 unfoldable pub lasts : ℕ → ℕ → Rec → Bool
@@ -41,7 +48,7 @@ lasts m1 now r = leb now (lastSlot m1 r)
 
 -- what a sound table asks of each record
 abbrev pub good : ℕ → ℕ → Rec → Bool
-good m1 now r = inRange r && lasts m1 now r
+good m1 now r = inRange r && notBelow0 m1 r && lasts m1 now r
 
 -- ---- a sound table
 

@@ -1,15 +1,14 @@
 // Whether a table in lent memory is sound.
 use record::Rec;
 ghost use mathlib.Core.Path.{_≡_};
-ghost use mathlib.Core.Bool.{true};
+ghost use mathlib.Core.Bool.{true, _&&_};
 ghost use Prim.Native.Nat.{_*_, _/_, _≤_};
 ghost use lib.ListN.{take};
 ghost use Rattle.octets.specs.Lists.{every};
 ghost use Rattle.octets.specs.Refusals.{within};
 ghost use Rattle.codec.specs.Parameters.{m1Row, fits};
 ghost use Rattle.record.specs.Record.{allRecords};
-ghost use Rattle.series.specs.Series.{lastSlot};
-ghost use Rattle.sound.specs.Sound.{sizeFits, numbersFit, inRange, good, sound};
+ghost use Rattle.sound.specs.Sound.{sizeFits, numbersFit, inRange, notBelow0, lasts, good, sound};
 
 // Whether x lies in lo..hi.
 fn in_range(lo: u32, hi: u32, x: u32) -> bool
@@ -31,8 +30,10 @@ fn is_good(r: Rec, m1: u32, time: u32) -> bool
     let superframes = in_range(1, 3, r.superframes as u32);
     let length = in_range(1, 32, r.length as u32);
     let far = r.far <= 1;
-    if station & first & rate & superframes & length & far {
-        return time <= last_slot(r, m1);
+    let bo = r.bo != 128;
+    let zeros = (r.zeros.a == 0) & (r.zeros.b == 0) & (r.zeros.c == 0);
+    if station & first & rate & superframes & length & far & bo & zeros {
+        return stands(r, m1, time);
     }
     false
 }
@@ -96,7 +97,7 @@ pub fn is_sound(m1: u32, time: u32, count: u32, memory: &[u8]) -> bool
     false
 }
 
-// ---- a last slot in 32 bits
+// ---- a record's sums in 32 bits, which are enough for one in range: over the octets that were tested they are quicker than series' own
 
 // m1 over a rate, the remainder dropped.
 fn spacing(m1: u32, rate: u32) -> u32
@@ -114,13 +115,16 @@ fn times(n: u32, m: u32) -> u32
     n * m
 }
 
-// As series::last_slot, for a record in range: 32 bits are enough, and a sum over the octets that were tested is quicker than a call of it.
-fn last_slot(r: Rec, m1: u32) -> u32
+// Whether a record in range has no further series below slot 0, and is not over at a time: `base` is where its last superframe starts, and by
+// `next`, less 128, the further one starts later than that.
+fn stands(r: Rec, m1: u32, time: u32) -> bool
     requires { ⌜ (inRange r ≡ true) × (m1 ≤ 15360) ⌝ }
-    ensures { λ s. ⌜ s ≡ lastSlot m1 r ⌝ }
+    ensures { λ b. ⌜ b ≡ (notBelow0 m1 r && lasts m1 time r) ⌝ }
 {
     let rate = r.rate as u32;
-    let superframes = times(r.superframes as u32 - 1, m1);
-    let blocks = times(rate - 1, spacing(m1, rate));
-    r.first + superframes + blocks + r.length as u32 - 1
+    let base = r.first + times(r.superframes as u32 - 1, m1);
+    let next = m1 + octets::lifted(r.bo) as u32;
+    let later = series::later_by(r.bo, next as u64) as u32;
+    let last = base + times(rate - 1, spacing(m1, rate)) + r.length as u32 - 1 + later;
+    (128 <= base + next) & (time <= last)
 }

@@ -1,5 +1,5 @@
 -- What a call gives back and leaves, by its refusal. Assumes nothing.
-use Prim.Native.Nat.{ℕ, zero, suc, _+_, _-_, _≤_}
+use Prim.Native.Nat.{ℕ, zero, suc, _+_, _-_, _*_, _≤_}
 use native.Mathlib.Omega.{arith}
 use mathlib.Core.Path.{_≡_, refl, ap, _∙_, sym}
 use mathlib.Core.Bool.{Bool, true, false, not, true≢false}
@@ -10,12 +10,16 @@ use borrow.Author.Tests.{ltb-false}
 use lib.ListN.{length, length-append, length-map}
 use Rattle.octets.specs.Lists.{keep}
 use Rattle.octets.specs.Refusals.{firstOf, outside}
+use Rattle.octets.specs.Complement.{octetOf, lifted}
 use Rattle.octets.proofs.Lists.{length-keep-not}
 use Rattle.octets.proofs.Refusals.{firstOf-append, firstOf-stop, firstOf-zero, outside-false, or-eq-false, answer-refused, answer-accepted}
 use Rattle.distance.specs.declared.Distance.{Distance}
 use Rattle.distance.specs.Distances.{isFar}
 use Rattle.record.specs.Record.{capacity, packed}
 use Rattle.record.specs.declared.Rec.{Rec}
+use Rattle.series.specs.Series.{furtherFrom, furtherBefore}
+use Rattle.series.proofs.Tests.{ltb-same}
+use Rattle.series.proofs.Series.{furtherBefore-sum}
 use Rattle.sound.specs.Sound.{Channel, records, sound}
 use Rattle.sound.proofs.Sound.{sound-parts}
 use Rattle.table.specs.declared.Request.{Request}
@@ -135,9 +139,9 @@ pub record InRange (q : Request) : Type 0 where
   pub bs-most : q .bs ≤ 255
 
 -- so it is where the request is not refused for its numbers
-pub request-passed : (q : Request) → firstOf (requestTests q) ≡ 0 → InRange q
-request-passed q z =
-    let p = firstOf-zero (requestTests q) refl z in
+pub request-passed : (m1 now : ℕ) (q : Request) → firstOf (requestTests m1 now q) ≡ 0 → InRange q
+request-passed m1 now q z =
+    let p = firstOf-zero (requestTests m1 now q) refl z in
     let size = or-eq-false (ltb 3 (q .superframes)) (outside 1 32 (q .length)) (p .1 .1 .1 .0) in
     record {
       rate-most = outside-false 1 60 (q .rate) (p .1 .0) .1;
@@ -146,23 +150,34 @@ request-passed q z =
       bs-most = outside-false 2 255 (q .bs) (p .1 .1 .1 .1 .0) .1;
     }
 
+-- whether its further series would begin before now is told without now: where there is none, the sum is 128 at least
+pub further-early : (m1 now : ℕ) (q : Request)
+    → furtherBefore m1 (newRecord now q) now ≡ ltb (q .bs + q .superframes * m1 + lifted (octetOf (q .bo))) 128
+further-early m1 now q =
+    furtherBefore-sum m1 (newRecord now q) now (omega arith)
+    ∙ ltb-same (furtherFrom m1 (newRecord now q)) (now + 128) (q .bs + q .superframes * m1 + lifted (octetOf (q .bo))) 128 (λ h. omega arith) (λ h. omega arith)
+
 module _ (m : Channel) (q : Request) where
   -- the record that it asks for
   abbrev x : Rec
   x = newRecord (m .now) q
 
+  -- what it is refused for by its numbers
+  abbrev tests : List (ℕ × Bool)
+  tests = requestTests (m .m1) (m .now) q
+
   -- refused for its numbers
-  pub request-refused : sound m ≡ true → (firstOf (requestTests q) ≡ 0 → ⊥) → Gives m (reserve q) (refusedAnswer (firstOf (requestTests q)) (stateOf m)) (m .memory)
+  pub request-refused : sound m ≡ true → (firstOf tests ≡ 0 → ⊥) → Gives m (reserve q) (refusedAnswer (firstOf tests) (stateOf m)) (m .memory)
   unfolding tableOf
-  request-refused h z = tested-gives m (reserve q) h _ (firstOf-stop (requestTests q) (heldTests (tableOf m) x) z) z
+  request-refused h z = tested-gives m (reserve q) h _ (firstOf-stop tests (heldTests (tableOf m) x) z) z
 
   -- not refused for them, it goes by the place for its record
-  added-gives : sound m ≡ true → firstOf (requestTests q) ≡ 0 → Gives m (reserve q) (added m x) (addedMemory m x)
+  added-gives : sound m ≡ true → firstOf tests ≡ 0 → Gives m (reserve q) (added m x) (addedMemory m x)
   unfolding channelOf tableOf
   added-gives h z = go (firstOf (heldTests (tableOf m) x)) refl
     where
       e : callRefusal m (reserve q) ≡ firstOf (heldTests (tableOf m) x)
-      e = callRefusal-sound m (reserve q) h ∙ firstOf-append (requestTests q) (heldTests (tableOf m) x) refl z
+      e = callRefusal-sound m (reserve q) h ∙ firstOf-append tests (heldTests (tableOf m) x) refl z
 
       l : length (records m ++ (x ∷ [])) ≡ m .count + 1
       l = length-append (records m) (x ∷ []) ∙ ap (λ n. n + 1) (sound-parts m h .counted)
@@ -178,7 +193,7 @@ module _ (m : Channel) (q : Request) where
           record { result = sym (a .0) ∙ g .result; octets = sym (a .1) ∙ g .octets }
 
   -- by a record y that is shown to be it
-  pub request-added : sound m ≡ true → firstOf (requestTests q) ≡ 0
+  pub request-added : sound m ≡ true → firstOf tests ≡ 0
       → {y : Rec} {r : Answer} {b : List ℕ} → r ≡ added m y → b ≡ addedMemory m y → y ≡ x → Gives m (reserve q) r b
   request-added h z er eb e =
       let g = rw (← e) at (added-gives h z) in

@@ -1,6 +1,6 @@
 -- What the private functions promise: the code's own steps. Nothing that a caller of the crate has to believe.
 use Prim.Native.Nat.{ℕ, _+_, _-_}
-use mathlib.Core.Bool.{Bool, cond, not, _&&_, _||_}
+use mathlib.Core.Bool.{Bool, cond, not}
 use mathlib.Core.List.{List, [], _∷_, _++_, map}
 use lib.ListN.{length as len, getD, take, drop}
 use Rattle.octets.specs.Lists.{keep}
@@ -14,9 +14,9 @@ use Rattle.table.specs.declared.Answer.{Answer}
 use Rattle.table.specs.Table.{ownedBy, heldTests}
 use Rattle.table.specs.Memory.{stateOf, tableOf}
 
--- a record of any station, or of another one only, that is not over at a slot
+-- by time a record that is not over at a slot, else one of another station
 unfoldable pub stays : Stay → Rec → Bool
-stays rule r = (rule .any || not (ownedBy (rule .station) r)) && lasts (rule .m1) (rule .slot) r
+stays rule r = cond (rule .timed) (lasts (rule .m1) (rule .slot) r) (not (ownedBy (rule .station) r))
 
 -- a where record i passes, b where not
 abbrev pub sieved : (Rec → Bool) → List Rec → ℕ → ℕ → ℕ → ℕ

@@ -1,4 +1,4 @@
--- Document 01's table over records: of each call what it is refused for, what it changes, what it reports.
+-- The papers' table over records: of each call what it is refused for, what it changes, what it reports.
 use Prim.Native.Nat.{ℕ, _+_, _^_}
 use mathlib.Core.Bool.{Bool, true, false, cond, not, _&&_, _||_}
 use mathlib.Core.List.{List, [], _∷_, _++_, map}
@@ -7,9 +7,12 @@ use lib.Ieee.{Float}
 use lib.ListN.{length as len}
 use Rattle.octets.specs.Lists.{keep, has}
 use Rattle.octets.specs.Refusals.{outside}
+use Rattle.octets.specs.Complement.{beyond127, octetOf}
 use Rattle.distance.specs.declared.Distance.{Distance}
 use Rattle.distance.specs.Distances.{isFar, limitFits}
 use Rattle.record.specs.declared.Rec.{Rec}
+use Rattle.record.specs.Record.{threeZeros}
+use Rattle.series.specs.Series.{furtherBefore}
 use Rattle.sound.specs.Sound.{lasts}
 use Rattle.table.specs.declared.Request.{Request}
 
@@ -57,9 +60,11 @@ newRecord now q =
       superframes = q .superframes;
       length = q .length;
       far = farOctet (isFar (q .distance) (q .limit));
+      bo = octetOf (q .bo);
+      zeros = threeZeros;
     }
 
--- same station, first, rate, superframes, length
+-- same station, first, rate, superframes, length, bo
 unfoldable pub same : Rec → Rec → Bool
 same a b =
     eqb (a .station) (b .station)
@@ -67,6 +72,7 @@ same a b =
     && eqb (a .rate) (b .rate)
     && eqb (a .superframes) (b .superframes)
     && eqb (a .length) (b .length)
+    && eqb (a .bo) (b .bo)
 
 -- the station's own
 abbrev pub ownedBy : ℕ → Rec → Bool
@@ -82,6 +88,8 @@ setFar s far r =
       superframes = r .superframes;
       length = r .length;
       far = cond (ownedBy s r) far (r .far);
+      bo = r .bo;
+      zeros = r .zeros;
     }
 
 -- ---- the calls on a sound table; 11 comes before all of these refusals
@@ -90,14 +98,16 @@ setFar s far r =
 abbrev pub timeTests : Table → ℕ → List (ℕ × Bool)
 timeTests t slot = (12, ltb slot (t .now)) ∷ (13, ltb 1_000_000_000 slot) ∷ []
 
--- a reserve by its numbers: 8, 14, 15, 9, 5, 18
-abbrev pub requestTests : Request → List (ℕ × Bool)
-requestTests q =
+-- a reserve by its numbers: 8, 14, 15, 9, 5, 6, 24 where the further series would begin before now, 18
+abbrev pub requestTests : ℕ → ℕ → Request → List (ℕ × Bool)
+requestTests m1 now q =
     (8, leb (2 ^ 27) (q .station))
     ∷ (14, outside 1 60 (q .rate))
     ∷ (15, eqb (q .superframes) 0)
     ∷ (9, ltb 3 (q .superframes) || outside 1 32 (q .length))
     ∷ (5, outside 2 255 (q .bs))
+    ∷ (6, beyond127 (q .bo))
+    ∷ (24, furtherBefore m1 (newRecord now q) now)
     ∷ (18, not (limitFits (q .limit)))
     ∷ []
 
@@ -108,7 +118,7 @@ heldTests t r = (16, has (same r) (t .records)) ∷ (17, eqb (len (t .records)) 
 -- what a call is refused for, in order
 abbrev pub callTests : Table → Call → List (ℕ × Bool)
 callTests t (clock slot) = timeTests t slot
-callTests t (reserve q) = requestTests q ++ heldTests t (newRecord (t .now) q)
+callTests t (reserve q) = requestTests (t .m1) (t .now) q ++ heldTests t (newRecord (t .now) q)
 callTests t (distance s d limit) = (8, leb (2 ^ 27) s) ∷ (18, not (limitFits limit)) ∷ []
 callTests t (wipe s) = (8, leb (2 ^ 27) s) ∷ []
 callTests t (look f) = (f t .refusal, not (eqb (f t .refusal) 0)) ∷ []

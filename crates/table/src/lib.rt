@@ -1,12 +1,15 @@
 // The reservation table in lent memory: the calls.
 use distance::Distance;
 use record::Rec;
+use record::Zeros;
 ghost use mathlib.Core.Path.{_≡_};
 ghost use mathlib.Core.Bool.{true};
-ghost use Prim.Native.Nat.{ℕ, _+_, _≤_, _<_};
+ghost use Prim.Native.Nat.{ℕ, _+_, _*_, _≤_, _<_};
+ghost use lib.Dec.{ltb};
 ghost use lib.ListN.{length, getD, set, take};
 ghost use Rattle.octets.specs.Lists.{keep, has};
 ghost use Rattle.octets.specs.Refusals.{firstOf};
+ghost use Rattle.octets.specs.Complement.{lifted};
 ghost use Rattle.distance.specs.Distances as Distances;
 ghost use Rattle.record.specs.Record.{allRecords, blank, capacity, rest, packed};
 ghost use Rattle.sound.specs.Sound.{records, sound};
@@ -35,14 +38,14 @@ pub struct Request {
     pub superframes: u32,
     pub bs: u32,
     pub length: u32,
+    pub bo: i32,
     pub distance: Distance,
     pub limit: f64,
 }
 
-// Which records stay: those of any station, or of another one only, that are not over at a slot, in a table of m1 slots.
-// One test for clock and wipe, without cases: the compiler writes it into each of them, and leaves out what is always true there.
+// Which records stay: by time those that are not over at a slot, in a table of m1 slots; else those of another station.
 struct Stay {
-    any: bool,
+    timed: bool,
     station: u32,
     m1: u32,
     slot: u32,
@@ -72,19 +75,20 @@ fn refuse(n: u32, s: State) -> Answer
 fn does_stay(rule: Stay, r: Rec) -> bool
     ensures { λ b. ⌜ b ≡ stays rule r ⌝ }
 {
-    let other = r.station != rule.station;
-    let live = (rule.slot as u64) <= series::last_slot(r, rule.m1);
-    (rule.any | other) & live
+    if rule.timed {
+        return rule.slot as u64 <= series::last_slot(r, rule.m1);
+    }
+    r.station != rule.station
 }
 
 // Writes record i over record k, unless they are the same: until the first record goes, nothing is moved.
-fn move_down(memory: &mut [u8], i: usize, k: usize, r: Rec)
-    requires { ⌜ (k ≤ i) × (r ≡ getD (allRecords (now memory)) i blank) ⌝ }
-    ensures left { λ _. ⌜ allRecords (now (memory .exit)) ≡ set (allRecords (now (memory .entry))) k r ⌝ }
+fn move_down(memory: &mut [u8], i: usize, k: usize)
+    requires { ⌜ (k ≤ i) × (i < capacity (now memory)) ⌝ }
+    ensures left { λ _. ⌜ allRecords (now (memory .exit)) ≡ set (allRecords (now (memory .entry))) k (getD (allRecords (now (memory .entry))) i blank) ⌝ }
     ensures behind { λ _. ⌜ ((n : ℕ) → k < n → rest n (now (memory .exit)) ≡ rest n (now (memory .entry))) ⌝ }
 {
     if k < i {
-        record::store(memory, k, r);
+        record::copy(memory, i, k);
     }
 }
 
@@ -96,7 +100,7 @@ fn sift(memory: &mut [u8], i: usize, k: usize, rule: Stay) -> usize
     ensures behind { λ _. ⌜ ((n : ℕ) → k < n → rest n (now (memory .exit)) ≡ rest n (now (memory .entry))) ⌝ }
 {
     let r = record::load(memory, i);
-    move_down(memory, i, k, r);
+    move_down(memory, i, k);
     if does_stay(rule, r) {
         return k + 1;
     }
@@ -149,7 +153,8 @@ fn is_same(x: Rec, r: Rec) -> bool
         let rate = x.rate == r.rate;
         let superframes = x.superframes == r.superframes;
         let length = x.length == r.length;
-        return first & rate & superframes & length;
+        let bo = x.bo == r.bo;
+        return first & rate & superframes & length & bo;
     }
     false
 }
@@ -196,13 +201,23 @@ fn add(s: State, memory: &mut [u8], x: Rec) -> Answer
     }
 }
 
+// Whether a reservation's further series would begin before now. Where it has none, the sum is 128 at least.
+fn begins_early(bo: u8, bs: u32, superframes: u32, m1: u32) -> bool
+    requires { ⌜ (bs ≤ 255) × (superframes ≤ 3) ⌝ }
+    ensures { λ b. ⌜ b ≡ ltb (bs + superframes * m1 + lifted bo) 128 ⌝ }
+{
+    let from = bs as u64 + superframes as u64 * m1 as u64 + octets::lifted(bo) as u64;
+    from < 128
+}
+
 // The refusal that the numbers of a request call for, 0 for none.
-fn judge_request(q: Request) -> u32
-    ensures { λ r. ⌜ r ≡ firstOf (requestTests q) ⌝ }
+fn judge_request(s: State, q: Request) -> u32
+    ensures { λ r. ⌜ r ≡ firstOf (requestTests (s .m1) (s .now) q) ⌝ }
 {
     let rate = q.rate;
     let length = q.length;
     let bs = q.bs;
+    let bo = q.bo;
     if 134217728 <= q.station {
         return 8;
     }
@@ -217,6 +232,12 @@ fn judge_request(q: Request) -> u32
     }
     if (bs < 2) | (255 < bs) {
         return 5;
+    }
+    if (bo < -127) | (127 < bo) {
+        return 6;
+    }
+    if begins_early(octets::twos(bo), bs, q.superframes, s.m1) {
+        return 24;
     }
     if distance::limit_fits(q.limit) {
         return 0;
@@ -241,6 +262,7 @@ fn mark(memory: &mut [u8], i: usize, k: usize, station: u32, far: u8) -> usize
 {
     let r = record::load(memory, i);
     if r.station == station {
+        let zeros = r.zeros;
         record::store(
             memory,
             i,
@@ -251,6 +273,8 @@ fn mark(memory: &mut [u8], i: usize, k: usize, station: u32, far: u8) -> usize
                 superframes: r.superframes,
                 length: r.length,
                 far,
+                bo: r.bo,
+                zeros,
             },
         );
         return k + 1;
@@ -316,7 +340,7 @@ impl State {
                 return refuse(13, self);
             }
             let live = Stay {
-                any: true,
+                timed: true,
                 station: 0,
                 m1: self.m1,
                 slot,
@@ -326,12 +350,12 @@ impl State {
         refuse(11, self)
     }
 
-    // Adds one record at the end. Refused, in this order: 11, 8, 14, 15, 9, 5, 18, 16, 17.
+    // Adds one record at the end. Refused, in this order: 11, 8, 14, 15, 9, 5, 6, 24, 18, 16, 17.
     pub fn reserve(self, memory: &mut [u8], q: Request) -> Answer
         ensures { λ r. ⌜ Gives (channel self (now (memory .entry))) (reserve q) r (now (memory .exit)) ⌝ }
     {
         if is_sound(self, memory) {
-            let n = judge_request(q);
+            let n = judge_request(self, q);
             if n == 0 {
                 let d = q.distance;
                 let far = far_bit(d, q.limit);
@@ -342,6 +366,8 @@ impl State {
                     superframes: q.superframes as u8,
                     length: q.length as u8,
                     far,
+                    bo: octets::twos(q.bo),
+                    zeros: Zeros { a: 0, b: 0, c: 0 },
                 };
                 return add(self, memory, x);
             }
@@ -381,12 +407,11 @@ impl State {
             if 134217728 <= station {
                 return refuse(8, self);
             }
-            // At slot 0 no record is over.
             let other = Stay {
-                any: false,
+                timed: false,
                 station,
                 m1: self.m1,
-                slot: 0,
+                slot: self.now,
             };
             return sweep(self, memory, self.now, other);
         }

@@ -87,7 +87,7 @@ module _ (gone : ℕ → Bool) where
 
   -- a reserve's tests but the last, which is 17
   abbrev early : Table → Request → List (ℕ × Bool)
-  early t q = requestTests q ++ ((16, has (same (newRecord (t .now) q)) (t .records)) ∷ [])
+  early t q = requestTests (t .m1) (t .now) q ++ ((16, has (same (newRecord (t .now) q)) (t .records)) ∷ [])
 
   -- none of them depends on a record that goes
   early-left : (t : Table) (q : Request) → gone (q .station) ≡ false → early (left t) q ≡ early t q

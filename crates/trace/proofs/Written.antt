@@ -19,7 +19,7 @@ use Rattle.table.proofs.Calls.{callRefusal-sound}
 use Rattle.trace.specs.Machine.{runs}
 use Rattle.trace.specs.Sequences.{onOctets}
 use Rattle.trace.specs.Records.{Sound, refusalOn, leftOn, saidOn, onRecords}
-use Rattle.trace.specs.Claims.{ReadBack, WrittenBack, Refined, roomForOne, openedForOne}
+use Rattle.trace.specs.Claims.{ReadBack, WrittenBack, Refined, roomForOne}
 use Rattle.trace.proofs.Machine.{runs-refined}
 use Rattle.trace.proofs.Kept.{leftOn-look, all-in-range, sound-leftOn}
 
@@ -133,21 +133,22 @@ module _ (m1 : ℕ) (b : List ℕ) (o : openRefusal m1 b ≡ 0) where
   unfolding channelOf
   opened-channelOf = rw (packed-none b (open-fits .1))
 
--- ---- the table of the cases: M1 4500, and room for one record
+-- ---- the tables of the cases, with room for one record
 
--- its memory has this capacity
+-- their memory has this capacity
 roomForOne-capacity : capacity roomForOne ≡ 1
 roomForOne-capacity = capacity-packed 1 [] zero-le
 
--- its opening is accepted
-roomForOne-accepted : openRefusal 4500 roomForOne ≡ 0
-unfolding openRefusal fits
-roomForOne-accepted = rw (whole-packed 1 [] zero-le, roomForOne-capacity)
+module _ (m1 : ℕ) (h : fits m1Row m1 ≡ true) where
+  -- the opening is accepted
+  roomForOne-accepted : openRefusal m1 roomForOne ≡ 0
+  unfolding openRefusal
+  roomForOne-accepted = rw (h, whole-packed 1 [] zero-le, roomForOne-capacity)
 
--- it is sound
-pub roomForOne-sound : Sound (empty 4500 1)
-roomForOne-sound = rw roomForOne-capacity at (sound-empty 4500 roomForOne roomForOne-accepted)
+  -- it is sound
+  pub roomForOne-sound : Sound (empty m1 1)
+  roomForOne-sound = rw roomForOne-capacity at (sound-empty m1 roomForOne roomForOne-accepted)
 
--- a sequence on it goes by records
-pub roomForOne-runs : (cs : List Call) → runs onOctets openedForOne cs ≡ channelOf (runs onRecords (empty 4500 1) cs)
-roomForOne-runs cs = rw (opened-channelOf 4500 roomForOne roomForOne-accepted, roomForOne-capacity, runs-refined refined (empty 4500 1) cs roomForOne-sound)
+  -- a sequence on it goes by records
+  pub roomForOne-runs : (cs : List Call) → runs onOctets (opened m1 roomForOne) cs ≡ channelOf (runs onRecords (empty m1 1) cs)
+  roomForOne-runs cs = rw (opened-channelOf m1 roomForOne roomForOne-accepted, roomForOne-capacity, runs-refined refined (empty m1 1) cs roomForOne-sound)

@@ -3,6 +3,7 @@ use Prim.Native.Nat.{ℕ}
 use mathlib.Core.Path.{_≡_}
 use mathlib.Core.Bool.{true}
 use mathlib.Core.List.{List, [], _∷_}
+use lib.IntN.{pos}
 use Rattle.octets.specs.Octets.{AreOctets}
 use Rattle.octets.specs.Refusals.{firstOf}
 use Rattle.distance.specs.declared.Distance.the-variants.{Unknown}
@@ -75,7 +76,7 @@ OneResult =
 
 -- what a station asks for
 abbrev pub oneSlot : ℕ → Request
-oneSlot s = record { station = s; rate = 1; superframes = 1; bs = 2; length = 1; distance = Unknown; limit = num 150 }
+oneSlot s = record { station = s; rate = 1; superframes = 1; bs = 2; length = 1; bo = pos 0; distance = Unknown; limit = num 150 }
 
 -- a memory with room for one record
 abbrev pub roomForOne : List ℕ

@@ -8,7 +8,7 @@
 #include <string.h>
 
 enum {
-    RECORD = 12,
+    RECORD = 16,
     MOST_RECORDS = 2048,
     MOST_RATE = 60,
     MOST_LENGTH = 32,
@@ -32,8 +32,10 @@ typedef struct {
     uint32_t lo, hi, length, wanted;
 } Query;
 
+/* The tail is bo, as an octet, and the three zeros behind it. */
 typedef struct {
-    uint32_t station, first, rate, superframes, length, far;
+    uint32_t station, first, rate, superframes, length, far, tail;
+    int32_t bo;
 } Record;
 
 static inline uint32_t number_at(const uint8_t *octets)
@@ -57,14 +59,34 @@ static inline uint32_t larger(uint32_t a, uint32_t b)
 static inline Record record_at(const Table *table, uint32_t i)
 {
     const uint8_t *at = table->memory + (size_t)i * RECORD;
-    const Record record = { number_at(at), number_at(at + 4), at[8], at[9], at[10], at[11] };
+    const Record record = { number_at(at), number_at(at + 4), at[8], at[9], at[10], at[11], number_at(at + 12), (int8_t)at[12] };
     return record;
 }
 
-/* One past the last slot of a record. */
+/* From the first slot of a superframe's blocks to one past their last. */
+static inline uint32_t span(const Record *record, uint32_t spacing)
+{
+    return (record->rate - 1) * spacing + record->length;
+}
+
+/* One past the last slot of a record's own superframes. */
+static inline uint32_t own_past(const Record *record, uint32_t m1, uint32_t spacing)
+{
+    return record->first + (record->superframes - 1) * m1 + span(record, spacing);
+}
+
+/* Where the further superframe of blocks starts, which there is unless bo is 0. */
+static inline uint32_t further(const Record *record, uint32_t m1)
+{
+    return record->first + record->superframes * m1 + (uint32_t)record->bo;
+}
+
+/* One past the last slot of a record. There is no branch by whether a further superframe ends it: it would often be guessed wrong. */
 static inline uint32_t past(const Record *record, uint32_t m1, uint32_t spacing)
 {
-    return record->first + (record->superframes - 1) * m1 + (record->rate - 1) * spacing + record->length;
+    const int32_t later = (int32_t)m1 + record->bo;
+    const uint32_t has_further = -(uint32_t)(record->bo != 0);
+    return own_past(record, m1, spacing) + ((uint32_t)(later < 0 ? 0 : later) & has_further);
 }
 
 /* ---- soundness -------------------------------------------------------------------------------------------------------------------------- */
@@ -78,8 +100,9 @@ static inline int is_within(uint32_t lo, uint32_t hi, uint32_t x)
 static inline int is_good(const Record *record, uint32_t m1, uint32_t now)
 {
     const int in_range = (record->station < 1u << 27) & (record->first <= LAST_SLOT + MOST_BS) & is_within(1, MOST_RATE, record->rate) &
-                         is_within(1, 3, record->superframes) & is_within(1, MOST_LENGTH, record->length) & (record->far <= 1);
-    return in_range && now < past(record, m1, m1 / record->rate);
+                         is_within(1, 3, record->superframes) & is_within(1, MOST_LENGTH, record->length) & (record->far <= 1) &
+                         (record->tail <= 255) & (record->tail != 128);
+    return in_range && ((now < past(record, m1, m1 / record->rate)) & ((int32_t)further(record, m1) >= 0));
 }
 
 static int is_sound(const Table *table)
@@ -153,19 +176,30 @@ static inline void mark_superframe(Window w, const Record *record, uint32_t star
         mark_blocks(w, start, stop, spacing, stair, WIDE);
 }
 
+/* Whether slots meet the window. One test, and no branch by which side of the window they lie on: it would often be guessed wrong. */
+static inline int meets(Window w, uint32_t start, uint32_t over)
+{
+    return larger(start, w.lo) < smaller(over, w.end);
+}
+
 static inline void mark(Window w, const Record *record, uint32_t m1)
 {
     /* A single block is not divided for. */
     const uint32_t spacing = record->rate == 1 ? m1 : m1 / record->rate;
-    /* One test, and no branch by which side of the window a record lies on: it would often be guessed wrong. */
-    if (smaller(past(record, m1, spacing), w.end) <= larger(record->first, w.lo))
+    const uint32_t blocks = span(record, spacing), next = further(record, m1);
+    const int own = meets(w, record->first, own_past(record, m1, spacing));
+    const int more = (record->bo != 0) & meets(w, next, next + blocks);
+    if (!(own | more))
         return;
-    uint32_t start = record->first;
-    for (uint32_t k = 0; k < record->superframes && start < w.end; k++, start += m1) {
-        const uint32_t over = start + (record->rate - 1) * spacing + record->length;
-        if (over > w.lo)
-            mark_superframe(w, record, start, over, spacing);
+    if (own) {
+        uint32_t start = record->first;
+        for (uint32_t k = 0; k < record->superframes && start < w.end; k++, start += m1) {
+            if (start + blocks > w.lo)
+                mark_superframe(w, record, start, start + blocks, spacing);
+        }
     }
+    if (more)
+        mark_superframe(w, record, next, next + blocks, spacing);
 }
 
 /* Marks the window, until all of it is taken. Once no slot is free, far records change nothing. */

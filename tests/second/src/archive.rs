@@ -168,6 +168,7 @@ pub fn reserve(memory: &mut Lent, state: State, asked: &Reservation) -> Result<u
                 asked.superframes,
                 asked.bs,
                 asked.length,
+                asked.bo,
                 asked.distance.kind,
                 asked.distance.a,
                 asked.distance.b,
@@ -274,6 +275,7 @@ pub fn record_at(memory: &mut Lent, state: State, i: u32) -> Result<(u32, u32, R
             superframes,
             length,
             far,
+            bo,
         } = place.record;
         let record = Record {
             station,
@@ -282,6 +284,8 @@ pub fn record_at(memory: &mut Lent, state: State, i: u32) -> Result<(u32, u32, R
             superframes,
             length,
             far,
+            bo,
+            zeros: [0; 3],
         };
         (place.refusal, place.handed, record)
     })

@@ -41,6 +41,7 @@ pub struct Record {
     pub superframes: u8,
     pub length: u8,
     pub far: u8,
+    pub bo: i8,
 }
 
 /// `gemthatch_place`
@@ -89,6 +90,7 @@ extern "C" {
         superframes: u32,
         bs: u32,
         length: u32,
+        bo: i32,
         kind: u32,
         a: f64,
         b: f64,

@@ -34,7 +34,7 @@ pub fn reserve(station: u32, bs: u32) -> Entry {
         slot: bs,
         distance: UNKNOWN_MILES,
         limit: 150,
-        zeros: 0,
+        ..Entry::default()
     }
 }
 
@@ -50,7 +50,8 @@ pub fn reserve_as(asked: &Reservation, distance: u32, limit: u32) -> Entry {
         slot: asked.bs,
         distance,
         limit,
-        zeros: 0,
+        bo: asked.bo as i8,
+        zeros: [0; 3],
     }
 }
 
@@ -76,7 +77,7 @@ pub fn wipe(station: u32) -> Entry {
 pub fn uses(operation: u8, place: usize) -> bool {
     match operation {
         1 => matches!(place, 0 | 8..=11),
-        2 => place <= 19,
+        2 => place <= 20,
         3 => matches!(place, 0 | 4..=7 | 12..=19),
         4 => matches!(place, 0 | 4..=7),
         _ => false,
@@ -112,6 +113,7 @@ fn any_reserve(draw: &mut Draw, table: &Table) -> Entry {
             entry.superframes = held.superframes;
             entry.length = held.length;
             entry.slot = held.first.saturating_sub(table.now);
+            entry.bo = held.bo;
         }
     }
     entry
@@ -134,12 +136,13 @@ pub fn entry(draw: &mut Draw, table: &Table, operations: &[u8]) -> Entry {
 pub fn spoil(draw: &mut Draw, entry: &mut Entry, state: State) {
     let number = near::number(draw, state);
     let limit = draw.one_of(&[4_097, 1 << 31, u32::MAX, number]);
-    match (entry.operation, draw.below(6)) {
+    match (entry.operation, draw.below(7)) {
         (1, _) | (2, 0) => entry.slot = number,
         (2, 1) => entry.rate = number as u8,
         (2, 2) => entry.superframes = number as u8,
         (2, 3) => entry.length = number as u8,
         (2, 4) | (3, 0..=2) => entry.limit = limit,
+        (2, 5) => entry.bo = draw.one_of(&[-128, -128, -127, 127, number as i8]),
         _ => entry.station = number,
     }
 }

@@ -21,7 +21,7 @@ const OFTEN: u64 = 20;
 const LONG: Duration = Duration::from_secs(600);
 
 /// A log and its lines, as the paper's text has them.
-const WORKED: [(&str, &str); 35] = [
+const WORKED: [(&str, &str); 50] = [
     // Clock to 100, T, T again at another distance, and a far record.
     (
         "01 00 00 00  00 00 00 00  64 00 00 00  00 00 00 00  00 00 00 00  00 00 00 00",
@@ -150,35 +150,104 @@ const WORKED: [(&str, &str); 35] = [
         "04 00 00 00  FF FF FF 07  00 00 00 00  00 00 00 00  00 00 00 00  00 00 00 00",
         "30 ok 1\n",
     ),
-    // 4097 miles at limit 0 are near, 0 miles are far; both go with the clock.
+    // T with bo 10, again, and with bo -127; with bo 128, beside bs 1 and beside
+    // limit 4097 too.
     (
-        "02 01 01 01  00 00 00 00  02 00 00 00  01 10 00 00  00 00 00 00  00 00 00 00",
+        "02 03 02 05  01 00 00 00  05 00 00 00  FF FF FF FF  96 00 00 00  0A 00 00 00",
         "31 ok 0\n",
     ),
     (
+        "02 03 02 05  01 00 00 00  05 00 00 00  C8 00 00 00  96 00 00 00  0A 00 00 00",
+        "32 refused 16\n",
+    ),
+    (
+        "02 03 02 05  01 00 00 00  05 00 00 00  FF FF FF FF  96 00 00 00  81 00 00 00",
+        "33 ok 0\n",
+    ),
+    (
+        "02 03 02 05  01 00 00 00  05 00 00 00  FF FF FF FF  96 00 00 00  80 00 00 00",
+        "34 refused 6\n",
+    ),
+    (
+        "02 03 02 05  01 00 00 00  01 00 00 00  FF FF FF FF  96 00 00 00  80 00 00 00",
+        "35 refused 5\n",
+    ),
+    (
+        "02 03 02 05  01 00 00 00  05 00 00 00  FF FF FF FF  01 10 00 00  80 00 00 00",
+        "36 refused 6\n",
+    ),
+    // The two octets behind a bo; a bo of a clock, a distance and a wipe.
+    (
+        "02 03 02 05  01 00 00 00  05 00 00 00  FF FF FF FF  96 00 00 00  0A 01 00 00",
+        "37 refused 23\n",
+    ),
+    (
+        "02 03 02 05  01 00 00 00  05 00 00 00  FF FF FF FF  96 00 00 00  0A 00 80 00",
+        "38 refused 23\n",
+    ),
+    (
+        "01 00 00 00  00 00 00 00  BB 1D 00 00  00 00 00 00  00 00 00 00  01 00 00 00",
+        "39 refused 23\n",
+    ),
+    (
+        "03 00 00 00  01 00 00 00  00 00 00 00  96 00 00 00  96 00 00 00  FF 00 00 00",
+        "40 refused 23\n",
+    ),
+    (
+        "04 00 00 00  01 00 00 00  00 00 00 00  00 00 00 00  00 00 00 00  80 00 00 00",
+        "41 refused 23\n",
+    ),
+    // The last slots are 19492 and 19629.
+    (
+        "01 00 00 00  00 00 00 00  24 4C 00 00  00 00 00 00  00 00 00 00  00 00 00 00",
+        "42 ok 0\n",
+    ),
+    (
+        "01 00 00 00  00 00 00 00  25 4C 00 00  00 00 00 00  00 00 00 00  00 00 00 00",
+        "43 ok 1\n",
+    ),
+    (
+        "01 00 00 00  00 00 00 00  AD 4C 00 00  00 00 00 00  00 00 00 00  00 00 00 00",
+        "44 ok 0\n",
+    ),
+    (
+        "01 00 00 00  00 00 00 00  AE 4C 00 00  00 00 00 00  00 00 00 00  00 00 00 00",
+        "45 ok 1\n",
+    ),
+    // 4097 miles at limit 0 are near, 0 miles are far; both go with the clock.
+    (
+        "02 01 01 01  00 00 00 00  02 00 00 00  01 10 00 00  00 00 00 00  00 00 00 00",
+        "46 ok 0\n",
+    ),
+    (
         "02 01 01 01  00 00 00 00  03 00 00 00  00 00 00 00  00 00 00 00  00 00 00 00",
-        "32 ok 0\n",
+        "47 ok 0\n",
     ),
     (
         "01 00 00 00  00 00 00 00  00 CA 9A 3B  00 00 00 00  00 00 00 00  00 00 00 00",
-        "33 ok 2\n",
+        "48 ok 2\n",
     ),
     (
-        "02 02 01 20  07 00 00 00  FF 00 00 00  00 10 00 00  00 10 00 00  00 00 00 00",
-        "34 ok 0\n",
+        "02 02 01 20  07 00 00 00  FF 00 00 00  00 10 00 00  00 10 00 00  7F 00 00 00",
+        "49 ok 0\n",
     ),
-    ("01 00 00 00  00", "35 refused 23\n"),
+    ("01 00 00 00  00", "50 refused 23\n"),
 ];
 
 /// After how many of these records the table is, and what it then is.
-const MOMENTS: [(usize, &str); 7] = [
+const MOMENTS: [(usize, &str); 9] = [
     (0, "4500 0 0\n"),
     (1, "4500 100 0\n"),
-    (3, "4500 100 1\n1 105 3 2 5 0\n"),
-    (27, "4500 100 2\n1 105 3 2 5 1\n134217727 355 60 3 32 1\n"),
-    (29, "4500 7610 1\n134217727 355 60 3 32 1\n"),
-    (32, "4500 7610 2\n0 7612 1 1 1 0\n0 7613 1 1 1 1\n"),
-    (35, "4500 1000000000 1\n7 1000000255 2 1 32 1\n"),
+    (3, "4500 100 1\n1 105 3 2 5 0 0\n"),
+    (
+        27,
+        "4500 100 2\n1 105 3 2 5 1 0\n134217727 355 60 3 32 1 0\n",
+    ),
+    (29, "4500 7610 1\n134217727 355 60 3 32 1 0\n"),
+    (41, "4500 7610 2\n1 7615 3 2 5 0 10\n1 7615 3 2 5 0 -127\n"),
+    (44, "4500 19629 1\n1 7615 3 2 5 0 10\n"),
+    (47, "4500 19630 2\n0 19632 1 1 1 0 0\n0 19633 1 1 1 1 0\n"),
+    (50, "4500 1000000000 1\n7 1000000255 2 1 32 1 127\n"),
 ];
 
 pub fn check(replay: &Path, moment: &Path, report: &mut Report) {
@@ -269,14 +338,14 @@ fn moment_worked(moment: &Subject) -> Verdict {
 }
 
 /// How often each operation gave each answer; 0 is accepted.
-struct Answers([[u64; 24]; 4]);
+struct Answers([[u64; 25]; 4]);
 
 impl Answers {
     /// Each operation with the answers that it can get. A table that a log has
-    /// made is never refused 11, and 17 takes a full one.
+    /// made is never refused 11, 17 takes a full one, and 24 a shorter superframe.
     const ALL: [(&'static str, &'static [usize]); 4] = [
         ("clock", &[0, 23, 12, 13]),
-        ("reserve", &[0, 23, 8, 14, 15, 9, 5, 18, 16]),
+        ("reserve", &[0, 23, 8, 14, 15, 9, 5, 6, 18, 16]),
         ("distance", &[0, 23, 8, 18]),
         ("wipe", &[0, 23, 8]),
     ];
@@ -324,7 +393,7 @@ fn check_both(replay: &Subject, moment: &Subject, log: &[u8]) -> Result<(), Stri
 
 fn random_logs(replay: &Subject, moment: &Subject) -> Verdict {
     let mut draw = Draw::from_seed(1101);
-    let mut answers = Answers([[0; 24]; 4]);
+    let mut answers = Answers([[0; 25]; 4]);
     const LOGS: usize = 48;
     for round in 0..LOGS {
         let operations = [&BUSY[..], &FILLING, &IDLE][round % 3];
@@ -495,7 +564,7 @@ fn full_moment(moment: &Subject) -> Verdict {
     let full = filling();
     for records in [MOST_RECORDS - 1, MOST_RECORDS] {
         let lines: Vec<String> = (0..records)
-            .map(|station| format!("{station} 2 1 1 1 0\n"))
+            .map(|station| format!("{station} 2 1 1 1 0 0\n"))
             .collect();
         let text = format!("4500 0 {records}\n{}", lines.concat());
         moment.check_worked(&full[..records * ENTRY], text.as_bytes())?;
@@ -510,6 +579,7 @@ fn full_moment(moment: &Subject) -> Verdict {
             rate: 60,
             superframes: 3,
             length: 32,
+            bo: -127,
             ..logs::reserve(station, 255)
         };
         log.extend(wide.octets());
@@ -523,7 +593,13 @@ fn ends_of_input(program: &Subject) -> Verdict {
     // what is left of one, may come by a read of its own.
     let all: Vec<usize> = (0..ENTRY).collect();
     let some = [0, 1, 7, 8, 9, 16, 23];
-    let counts = [(0, &all[..]), (1, &all), (1365, &some), (1366, &some), (1367, &some)];
+    let counts = [
+        (0, &all[..]),
+        (1, &all),
+        (1365, &some),
+        (1366, &some),
+        (1367, &some),
+    ];
     let mut draw = Draw::from_seed(1105);
     for (count, shorts) in counts {
         let log = logs::day(&mut draw, count, &IDLE);

@@ -5,7 +5,8 @@ use mir.Syntax.{w32}
 use mir.Val.{SFits}
 use mir.Facts.{toZ-ofZ}
 use borrow.Author.Needs.{needs}
-use Rattle.octets.specs.Complement.{twosOf}
+use Rattle.octets.specs.Complement.{octetOf}
+use Rattle.octets.proofs.Complement.{octetOf-within}
 use Rattle.codec.proofs.store_after.Statement.{statement}
 use Rattle.codec.proofs.store_after.Tie as tie
 
@@ -32,7 +33,7 @@ cast-t11 : tie.Need-cast-t11
 cast-t11 c = search needs
 
 twos-requires : tie.Need-twos-requires
-twos-requires c κs = rw (toZ-ofZ (bo-fits c)) (c .before .before .before .before .before .pre .3 .bo-in)
+twos-requires c κs = search needs
 
 add-t13 : tie.Need-add-t13
 add-t13 c = record { fits = omega (arith, c .before .before .before .before .before .before .before .pre .3 .bt-low) }
@@ -43,7 +44,7 @@ cast-t14 c = record { fits = omega (arith, c .before .before .before .before .be
 returns : tie.Need-returns
 returns c =
     let s = c .before .before .before .before .before .before .before in
-    let bo = c .before .twos .ensures ∙ ap twosOf (toZ-ofZ (bo-fits (c .before .before))) in
+    let bo = c .before .twos .ensures ∙ ap octetOf (toZ-ofZ (bo-fits (c .before .before))) ∙ octetOf-within (s .args .b .bo) (s .pre .3 .bo-in) in
     rw (s .pre .0, s .pre .1, bo)
 
 pub store-after-spec : {M : Type 1} → statement M

@@ -1,29 +1,31 @@
--- `gemthatch::gemthatch_reserve` meets its contract: what the table's reserve answers, as one number. Assumes nothing.
-use mathlib.Core.Path.{refl, ap, _∙_}
+-- `gemthatch::gemthatch_reserve` meets its contract: what the table's reserve answers, as one number; bo's bits stand for it. Assumes nothing.
+use mathlib.Core.Path.{refl, _∙_}
 use denote.Ref.{now}
+use mir.Facts.{toZ-ofZ}
 use borrow.Author.Needs.{needs}
-use Rattle.distance.specs.declared.Distance.{Distance}
 use Rattle.sound.specs.Sound.{Channel}
 use Rattle.table.specs.Table.{Call, reserve}
-use Rattle.table.specs.Memory.{leaves}
-use Rattle.gemthatch.specs.OverC.{lent, callNumber}
+use Rattle.table.specs.Memory.{Gives}
+use Rattle.gemthatch.specs.OverC.{lent, request}
 use Rattle.gemthatch.proofs.Most.{returned-most, returned-callNumber}
 use Rattle.gemthatch.proofs.gemthatch_reserve.Statement.{statement}
 use Rattle.gemthatch.proofs.gemthatch_reserve.Tie as tie
 
 -- ---- what is known at a place
 
-module _ (c : tie.After-distance-of) where
+module _ (c : tie.After-reserve) where
   abbrev given : Channel
   given =
-      let a = c .before .before .args in
+      let a = c .before .before .before .before .args in
       lent (a .m1) (a .time) (a .count) (now (a .memory))
 
-  -- the call, by its distance
-  abbrev call : Distance → Call
-  call d =
-      let a = c .before .before .args in
-      reserve (record { station = a .station; rate = a .rate; superframes = a .superframes; bs = a .bs; length = a .length; distance = d; limit = a .limit })
+  abbrev call : Call
+  call =
+      let a = c .before .before .before .before .args in
+      reserve (request (a .station) (a .rate) (a .superframes) (a .bs) (a .length) (a .bo) (a .kind) (a .a) (a .b) (a .limit))
+
+  gives : Gives given call (c .reserve .result) (c .reserve .last .1 .0)
+  gives = rw (toZ-ofZ (c .before .before .before .before .fits .bo), c .before .before .distance-of .ensures) at (c .reserve .ensures)
 
 -- ---- the needs
 
@@ -34,24 +36,15 @@ reserve-requires : tie.Need-reserve-requires
 reserve-requires c κs = search needs
 
 over-c-requires : tie.Need-over-c-requires
-over-c-requires c κs =
-    let x = c .before .before .before .before in
-    let k = c .before .before .reserve in
-    returned-most (k .result) (given x) (call x (x .distance-of .result)) (k .ensures .result) refl
+over-c-requires c κs = let k = c .before .before in returned-most (k .reserve .result) (given k) (call k) (gives k .result) refl
 
 same-length : tie.Need-same-length
 same-length c = c .before .before .before .reserve .kept .1 .0
 
 returns : tie.Need-returns
 returns c =
-    let x = c .before .before .before .before .before in
-    let k = c .before .before .before .reserve in
-    let e = x .distance-of .ensures in (
-      c .over-c .ensures
-          ∙ returned-callNumber (k .result) (given x) (call x (x .distance-of .result)) (k .ensures .result)
-          ∙ ap (λ d. callNumber (given x) (call x d)) e,
-      k .ensures .octets ∙ ap (λ d. leaves (given x) (call x d) .memory) e,
-    )
+    let k = c .before .before .before in
+    (c .over-c .ensures ∙ returned-callNumber (k .reserve .result) (given k) (call k) (gives k .result), gives k .octets)
 
 pub gemthatch-reserve-spec : {M : Type 1} → statement M
 gemthatch-reserve-spec =

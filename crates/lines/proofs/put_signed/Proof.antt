@@ -32,23 +32,23 @@ one-if-requires c κs = search needs
 add-i : tie.Need-add-i
 add-i c =
     let s = c .before .before .before in
-    omega (arith, step c, sign-room (now (s .args .out)) (s .args .at) (s .args .z) (s .pre) .room, length-set (now (s .args .out)) (s .args .at) 45)
+    omega (arith, step c, sign-room (now (s .args .out)) (s .args .at) (s .args .after) (s .args .z) (s .pre) .room, length-set (now (s .args .out)) (s .args .at) 45)
 
 slice-write-out : tie.Need-slice-write-out
 slice-write-out c =
     let s = c .before .before .before in
-    omega (arith, length-append (signedDecimal (s .args .z)) (32 ∷ []))
+    omega (arith, length-append (signedDecimal (s .args .z)) (s .args .after ∷ []))
 
 put-field-requires : tie.Need-put-field-requires
 put-field-requires c κs =
     let s = c .before .before .before .before in
-    rw (step (c .before), size (c .before .before)) (sign-room (now (s .args .out)) (s .args .at) (s .args .z) (s .pre))
+    rw (step (c .before), size (c .before .before)) (sign-room (now (s .args .out)) (s .args .at) (s .args .after) (s .args .z) (s .pre))
 
 returns : tie.Need-returns
 returns c =
     let p = c .before .before in
     let s = p .before .before .before .before .before in
-    sign-wrote (now (s .args .out)) (s .args .at) (s .args .z)
+    sign-wrote (now (s .args .out)) (s .args .at) (s .args .after) (s .args .z)
     (rw (step (p .before .before), size (p .before .before .before)) at (p .put-field .ensures))
 
 same-length : tie.Need-same-length

@@ -12,7 +12,7 @@ use Rattle.lines.proofs.record_line.Tie as tie
 fits : (c : tie.Start) → length (recordLine (c .args .r)) ≤ lineRoom
 fits c =
     let g = c .good in
-    record-room _ (omega (arith, g), omega (arith, g), omega (arith, g), omega (arith, g), omega (arith, g), omega (arith, g))
+    record-room _ (omega (arith, g), omega (arith, g), omega (arith, g), omega (arith, g), omega (arith, g), omega (arith, g), omega (arith, g))
 
 slice-aggregate-put-record : tie.Need-slice-aggregate-put-record
 slice-aggregate-put-record c = search needs

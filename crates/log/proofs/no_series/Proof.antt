@@ -1,4 +1,4 @@
--- `log::no_series` meets its contract: `zeros` asks the same of the three fields. Assumes nothing.
+-- `log::no_series` meets its contract: `zeros` asks the same of the four fields. Assumes nothing.
 use mathlib.Core.Bool.{and-assoc, and-true}
 use Rattle.log.proofs.no_series.Statement.{statement}
 use Rattle.log.proofs.no_series.Tie as tie

@@ -1,73 +1,62 @@
--- `series::reserves` meets its contract: the one block that the divisions give tells. Assumes nothing.
-use Prim.Native.Nat.{_<_, _≤_}
-use mathlib.Core.Path.{sym}
-use native.Mathlib.Omega.{arith}
+-- `series::reserves` meets its contract: one series or two, by bo. Assumes nothing.
+use mathlib.Core.Path.{sym, _∙_}
 use borrow.Author.Needs.{needs}
-use Rattle.series.proofs.Series.{begun-each, begun-tells, not-begun}
+use Rattle.series.specs.Series.{reserves}
+use Rattle.series.proofs.Series.{reserves-one, reserves-two}
 use Rattle.series.proofs.reserves.Statement.{statement}
 use Rattle.series.proofs.reserves.Tie as tie
 
--- there are blocks, and the first has started
-started : (c : tie.Then1) → let a = c .before .before .before .before .before .args in (0 < a .r .superframes) × (0 < a .r .rate) × (a .r .first ≤ a .slot)
-started c =
-    let a = c .before .before .before .before .before .args in
-    begun-each (a .m1) (a .r) (a .slot) (c .if1 .taken)
+cast-in-series : tie.Need-cast-in-series
+cast-in-series c = search needs
 
-cast-first : tie.Need-cast-first
-cast-first c = search needs
+cast-in-series-2 : tie.Need-cast-in-series-2
+cast-in-series-2 c = search needs
 
-cast-superframes : tie.Need-cast-superframes
-cast-superframes c = search needs
-
-cast-rate : tie.Need-cast-rate
-cast-rate c = search needs
-
-cast-length : tie.Need-cast-length
-cast-length c = search needs
-
-sub-since-superframe : tie.Need-sub-since-superframe
-sub-since-superframe c = omega (arith, started c)
-
-sub-since-superframe-2 : tie.Need-sub-since-superframe-2
-sub-since-superframe-2 c = omega (arith, started c)
-
-since-superframe-requires : tie.Need-since-superframe-requires
-since-superframe-requires c κs = search needs
-
-sub-since-last : tie.Need-sub-since-last
-sub-since-last c = omega (arith, started (c .before))
-
-quotient-requires : tie.Need-quotient-requires
-quotient-requires c κs = search needs
-
-since-last-requires : tie.Need-since-last-requires
-since-last-requires c κs = search needs
+in-series-requires : tie.Need-in-series-requires
+in-series-requires c κs = search needs
 
 returns : tie.Need-returns
-returns c =
-    let s = c .before .before .before in
-    let a = s .before .before .before .before .before .args in
-    rw (c .since-last .ensures, c .before .quotient .ensures .0, c .before .before .since-superframe .ensures)
-    (begun-tells (a .m1) (a .r) (a .slot) (s .if1 .taken))
+unfolding reserves
+returns c = rw (← c .before .in-series .ensures, c .if1 .taken)
 
 returns-2 : tie.Need-returns-2
 returns-2 c =
-    let a = c .before .before .before .before .before .args in
-    sym (not-begun (a .m1) (a .r) (a .slot) (c .if1 .left))
+    let i = c .before .before in
+    let a = i .before .before .before .before .args in
+    sym (reserves-one (a .m1) (a .r) (c .if2 .taken) (a .slot) ∙ sym (i .before .in-series .ensures) ∙ i .if1 .left)
+
+further-from-requires : tie.Need-further-from-requires
+further-from-requires c κs = search needs
+
+add-in-series : tie.Need-add-in-series
+add-in-series c = search needs
+
+in-series-requires-2 : tie.Need-in-series-requires-2
+in-series-requires-2 c κs = search needs
+
+returns-3 : tie.Need-returns-3
+returns-3 c =
+    let e = c .before .before in
+    let i = e .before .before in
+    let a = i .before .before .before .before .args in
+    rw (
+      c .in-series2 .ensures,
+      c .before .further-from .ensures .0,
+      reserves-two (a .m1) (a .r) (e .if2 .left) (a .slot),
+      ← i .before .in-series .ensures,
+      i .if1 .left,
+    )
 
 pub reserves-spec : {M : Type 1} → statement M
 reserves-spec =
     tie.close
     (tie.spec
-    cast-first
-    cast-superframes
-    cast-rate
-    cast-length
-    sub-since-superframe
-    sub-since-superframe-2
-    since-superframe-requires
-    sub-since-last
-    quotient-requires
-    since-last-requires
+    cast-in-series
+    cast-in-series-2
+    in-series-requires
     returns
-    returns-2)
+    returns-2
+    further-from-requires
+    add-in-series
+    in-series-requires-2
+    returns-3)

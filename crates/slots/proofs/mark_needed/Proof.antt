@@ -15,7 +15,7 @@ returns c =
     let s = c .before .before .before in
     let a = s .args in
     let t = and-eq-true-iff (a .full) (eqb (a .r .far) 1) .0 (c .if1 .taken) in
-    record { at = λ i l. rw (t .1) (marked-same (reserves (a .m1) (a .r) (a .lo + i)) (getD (now (a .out)) i 0) 1 (s .pre .1 (t .0) .at i l)) }
+    record { at = λ i l. rw (t .1) (marked-same (reserves (a .m1) (a .r) (a .lo + i)) (getD (now (a .out)) i 0) 1 (s .pre .2 (t .0) .at i l)) }
 
 mark-record-requires : tie.Need-mark-record-requires
 mark-record-requires c κs = search needs

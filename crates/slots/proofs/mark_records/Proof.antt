@@ -79,6 +79,7 @@ mark-some-requires c κs =
     let e = entry h in
     let inv = h .loop .inv in (
       record { ahead = omega arith; behind = omega (arith, e .pre, inv .same) },
+      omega arith,
       omega (arith, l .lesser .ensures, at-held h .held-count .ensures .1),
       λ f. record { at = λ j b. inv .reserved-all .at j (omega (arith, eqb-true (h .loop .reserved) (e .args .n) f)) },
     )

@@ -48,7 +48,7 @@ loop-again c =
     let k = h .loop .k in
     let inv = h .loop .inv in
     let marked = x .mark-needed .ensures in
-    let next = toCome-next k (a .n) (now (a .memory)) (load .before .before .loop-test .taken) (s .pre .1) in (
+    let next = toCome-next k (a .n) (now (a .memory)) (load .before .before .loop-test .taken) (s .pre .2) in (
       x .mark-needed .kept .0 ∙ inv .0,
       (λ e. record { at = λ j l. rw (marked .at j l) (omega (arith, inv .1 e .at j l, marked-≥ (reserves (a .m1) (load .load .result) (a .lo + j)) (getD (h .loop .out) j 0) (markOf (load .load .result .far)))) }),
       (λ j l.

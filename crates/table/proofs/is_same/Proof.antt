@@ -6,7 +6,7 @@ use Rattle.table.proofs.is_same.Tie as tie
 
 returns : tie.Need-returns
 unfolding same
-returns c = rw (eq-eqb _ _ (c .before .before .before .before .before .before .before .before .if1 .taken))
+returns c = rw (eq-eqb _ _ (c .before .before .before .before .before .before .before .before .before .before .if1 .taken))
 
 returns-2 : tie.Need-returns-2
 unfolding same

@@ -17,14 +17,14 @@ store-requires : tie.Need-store-requires
 store-requires c κs = search needs
 
 add-result : tie.Need-add-result
-add-result c = omega (arith, capacity-most (now (c .before .before .before .before .before .before .before .before .before .args .memory)))
+add-result c = omega (arith, capacity-most (now (c .before .before .before .before .before .before .before .before .before .before .args .memory)))
 
 same-length : tie.Need-same-length
 same-length c = c .before .before .store .kept .0
 
 returns : tie.Need-returns
 returns c =
-    let h = c .before .before .before .before in
+    let h = c .before .before .before .before .before in
     rw (← h .before .before .load .ensures, eq-eqb _ _ (h .if1 .taken)) (refl, c .before .before .store .ensures .1)
 
 same-length-2 : tie.Need-same-length-2

@@ -1,5 +1,4 @@
 -- `table::sift` meets its contract: the record is moved, and counted where it stays. Assumes nothing.
-use mathlib.Core.Path.{refl}
 use native.Mathlib.Omega.{arith}
 use denote.Ref.{now}
 use borrow.Author.Needs.{needs}
@@ -11,7 +10,7 @@ load-requires : tie.Need-load-requires
 load-requires c κs = search needs
 
 move-down-requires : tie.Need-move-down-requires
-move-down-requires c κs = (c .before .before .before .before .pre .0, c .before .load .ensures)
+move-down-requires c κs = search needs
 
 does-stay-requires : tie.Need-does-stay-requires
 does-stay-requires c κs = search needs
@@ -25,7 +24,7 @@ same-length c = c .before .before .before .before .move-down .kept .0
 returns : tie.Need-returns
 returns c =
     let h = c .before .before .before .before in
-    rw (← h .before .before .load .ensures, ← c .before .does-stay .ensures, c .if1 .taken) (refl, h .move-down .ensures)
+    (rw (← h .before .before .load .ensures, ← c .before .does-stay .ensures, c .if1 .taken), h .move-down .ensures)
 
 same-length-2 : tie.Need-same-length-2
 same-length-2 c = c .before .before .before .before .move-down .kept .0
@@ -33,7 +32,7 @@ same-length-2 c = c .before .before .before .before .move-down .kept .0
 returns-2 : tie.Need-returns-2
 returns-2 c =
     let h = c .before .before .before .before in
-    rw (← h .before .before .load .ensures, ← c .before .does-stay .ensures, c .if1 .left) (refl, h .move-down .ensures)
+    (rw (← h .before .before .load .ensures, ← c .before .does-stay .ensures, c .if1 .left), h .move-down .ensures)
 
 pub sift-spec : {M : Type 1} → statement M
 sift-spec =

@@ -49,6 +49,7 @@ pub fn reserve(memory: &mut [u8], state: State, wish: &Wish) -> u32 {
             wish.superframes,
             wish.bs,
             wish.length,
+            wish.bo,
             wish.distance.kind,
             wish.distance.a,
             wish.distance.b,

@@ -7,11 +7,12 @@ use std::time::{Duration, Instant};
 use super::archive::{self, number};
 use super::c;
 use super::figures::{three_digits, time, Figures, Side, ROUNDS};
-use super::tables::{Kind, Setting, Table};
+use super::tables::{any_bo, Kind, Setting, Table};
 use crate::draw::Draw;
 use crate::gemthatch::REFUSED;
 use crate::logs;
-use crate::plain::{self, Answer, Distance, Range, State, Wish};
+use crate::paper::log::Entry;
+use crate::plain::{self, Answer, Distance, Range, State, Wish, RECORD};
 
 const CAPACITIES: [usize; 3] = [2048, 64, 1];
 const FULL: usize = CAPACITIES[0];
@@ -131,7 +132,7 @@ fn measure<A, R: Copy + Debug + PartialEq>(
     let inputs = &inputs[..compared];
     let size = match start.elapsed() > LONG * compared as u32 {
         true => 1,
-        false => (FULL * 12 / inputs[0].memory.len()).min(BATCH),
+        false => (FULL * RECORD / inputs[0].memory.len()).min(BATCH),
     };
     let mut lent: Vec<Lent> = inputs[..size].iter().map(Lent::to).collect();
     Ok(Figures::by_turns(size, |side, number| {
@@ -192,6 +193,7 @@ fn wish(table: &Table, draw: &mut Draw) -> Wish {
         superframes: 1 + draw.below(3),
         bs: 2 + draw.below(254),
         length: 1 + draw.below(32),
+        bo: any_bo(draw),
         distance: any_distance(draw),
         limit: LIMIT,
     }
@@ -234,6 +236,7 @@ fn reserve_held(setting: Setting) -> Result<Figures, String> {
         last.rate = wish.rate;
         last.superframes = wish.superframes;
         last.length = wish.length;
+        last.bo = wish.bo;
         Input::new(&table, wish)
     });
     time_reserve(&inputs, |answer| answer == REFUSED + 16)
@@ -382,7 +385,10 @@ fn replay_step(setting: Setting) -> Result<Figures, String> {
         let station = draw.one_of(&table.stations);
         let entry = match draw.below(4) {
             0 => logs::clock(table.now + draw.below(4)),
-            1 => logs::reserve(station, 2 + draw.below(254)),
+            1 => Entry {
+                bo: any_bo(draw) as i8,
+                ..logs::reserve(station, 2 + draw.below(254))
+            },
             2 => logs::distance(station, draw.below(400), 150),
             _ => logs::wipe(station),
         };

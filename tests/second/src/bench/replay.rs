@@ -4,6 +4,7 @@
 use std::path::Path;
 
 use super::programs::{by_turns, null, time, Program};
+use super::tables::any_bo;
 use crate::draw::Draw;
 use crate::logs;
 use crate::paper::log::{Day, Entry, ENTRY};
@@ -32,6 +33,7 @@ fn full() -> Vec<u8> {
                 rate: 1 + draw.below(60) as u8,
                 superframes: 3,
                 length: 1 + draw.below(32) as u8,
+                bo: any_bo(&mut draw) as i8,
                 ..logs::reserve(station, 2 + draw.below(254))
             },
             // Refused, as the table is full.

@@ -1,7 +1,7 @@
 //! Sound tables of several kinds for the calls.
 
 use crate::draw::Draw;
-use crate::plain::{Record, State};
+use crate::plain::{Record, State, RECORD};
 
 #[derive(Clone, Copy, PartialEq)]
 pub enum Kind {
@@ -56,6 +56,14 @@ const LONGEST_BLOCK: u32 = 32;
 /// Stations in a table, each with its share of the records.
 const STATIONS: usize = 16;
 
+/// Of half of the records 0, else any other.
+pub fn any_bo(draw: &mut Draw) -> i32 {
+    match draw.below(2) {
+        0 => 0,
+        _ => (1 + draw.below(127) as i32) * draw.one_of(&[-1, 1]),
+    }
+}
+
 pub struct Table {
     pub setting: Setting,
     pub now: u32,
@@ -79,7 +87,7 @@ impl Table {
         table
     }
 
-    /// A record that is held now.
+    /// A record that is held now, with a bo or without one.
     fn record(&self, draw: &mut Draw) -> Record {
         let Setting { kind, m1, .. } = self.setting;
         let mut record = Record {
@@ -89,15 +97,18 @@ impl Table {
             superframes: 1 + draw.below(3),
             length: 1 + draw.below(LONGEST_BLOCK),
             far: u8::from(kind == Kind::Far || kind == Kind::Mixed && draw.below(2) == 0),
+            bo: any_bo(draw),
         };
         if kind == Kind::Sparse {
             (record.rate, record.superframes, record.length) = (1, 1, 1);
         }
         if kind == Kind::Comb || kind == Kind::Staggered {
             (record.rate, record.superframes, record.length) = (60, 3, 1);
+            // Then the others' blocks are over once the further ones begin.
+            record.bo = record.bo.abs();
         }
         let spacing = m1 / record.rate;
-        record.first = match kind {
+        let start = match kind {
             Kind::Sparse => self.now + draw.below(m1),
             Kind::Comb => self.now - spacing * draw.below(60),
             Kind::Staggered => {
@@ -106,6 +117,11 @@ impl Table {
             }
             _ => self.now + 255 - draw.below(256 + record.last(m1)),
         };
+        // Of those that lie there by their kind, half begin with the further
+        // blocks, where there are such.
+        let by_kind = matches!(kind, Kind::Sparse | Kind::Comb | Kind::Staggered);
+        let further = by_kind && record.bo != 0 && draw.below(2) == 0;
+        record.first = start - if further { record.further(m1) } else { 0 };
         record
     }
 
@@ -118,8 +134,8 @@ impl Table {
     }
 
     pub fn memory(&self) -> Vec<u8> {
-        let mut memory = vec![0; self.setting.capacity * 12];
-        for (record, octets) in self.records.iter().zip(memory.chunks_exact_mut(12)) {
+        let mut memory = vec![0; self.setting.capacity * RECORD];
+        for (record, octets) in self.records.iter().zip(memory.chunks_exact_mut(RECORD)) {
             record.write(octets);
         }
         memory

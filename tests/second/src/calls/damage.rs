@@ -9,7 +9,7 @@ use crate::paper::{LATEST, STATIONS};
 use crate::report::Verdict;
 
 /// The ways to spoil a sound table that holds a record and has room for one.
-pub const WAYS: [&str; 16] = [
+pub const WAYS: [&str; 19] = [
     "station",
     "first",
     "rate 0",
@@ -19,6 +19,9 @@ pub const WAYS: [&str; 16] = [
     "length 0",
     "length above 32",
     "far",
+    "bo",
+    "zeros",
+    "further series below slot 0",
     "last slot before now",
     "tail",
     "count too high",
@@ -45,6 +48,13 @@ pub fn spoil(draw: &mut Draw, channel: &Channel, way: &str) -> Channel {
         "length 0" => record.length = 0,
         "length above 32" => record.length = draw.one_of(&[33, 128, 255]),
         "far" => record.far = draw.one_of(&[2, 3, 128, 255]),
+        "bo" => record.bo = -128,
+        "zeros" => record.zeros[draw.below(3) as usize] = 1 << draw.below(8),
+        "further series below slot 0" => {
+            (state.m1, state.now) = (60, 0);
+            (record.first, record.superframes) = (draw.below(67), 1);
+            record.bo = -127 + draw.below(67 - record.first) as i8;
+        }
         "last slot before now" => state.now = record.last_slot(state.m1) as u32 + 1,
         "tail" => {
             let tail = (size - used) as u32;
@@ -57,7 +67,7 @@ pub fn spoil(draw: &mut Draw, channel: &Channel, way: &str) -> Channel {
         "count too low" => state.count -= 1,
         "M1" => state.m1 = draw.one_of(&[0, 1, 59, 61, state.m1 + 1, 15_420, u32::MAX]),
         "now" => state.now = draw.one_of(&[LATEST + 1, 1 << 31, u32::MAX]),
-        "size" => octets.resize(size + 1 + draw.below(11) as usize, 0),
+        "size" => octets.resize(size + 1 + draw.below(RECORD as u32 - 1) as usize, 0),
         _ => unreachable!("no way to spoil {way}"),
     }
     octets[place..place + RECORD].copy_from_slice(&record.octets());
@@ -125,7 +135,7 @@ pub fn odd(draw: &mut Draw, round: u32) -> Channel {
     let state = &mut channel.state;
     match round % 4 {
         0 => {
-            let size = draw.one_of(&[0, 1, 11, 12, 13, 24, 36, 48, 100]);
+            let size = draw.one_of(&[0, 1, 12, 15, 16, 17, 24, 32, 48, 64, 100]);
             let octets: Vec<u8> = (0..size).map(|_| draw.octet()).collect();
             channel = Channel::holding(&octets, channel.state);
         }
@@ -150,7 +160,7 @@ pub fn odd(draw: &mut Draw, round: u32) -> Channel {
 
 /// The largest memory and larger ones, full of ones, with all sorts of state.
 pub fn oversized() -> impl Iterator<Item = Channel> {
-    [24_576, 24_577, 24_588, 65_536]
+    [32_768, 32_769, 32_784, 65_536]
         .into_iter()
         .flat_map(|size| {
             [0, 1, 60, 2_048, u32::MAX].map(|number| {

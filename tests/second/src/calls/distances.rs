@@ -19,6 +19,8 @@ fn table(far: u8) -> Channel {
         superframes: 1,
         length: 1,
         far,
+        bo: 0,
+        zeros: [0; 3],
     };
     let mut octets = [record(7, far).octets(), record(8, 1).octets()].concat();
     octets.resize(3 * RECORD, 0);
@@ -50,6 +52,7 @@ fn tell(pair: &mut Pair, distance: Distance, limit: f64) -> Result<Option<u8>, S
         superframes: 1,
         bs: 2,
         length: 1,
+        bo: 0,
         distance,
         limit,
     };

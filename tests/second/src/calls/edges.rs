@@ -34,8 +34,10 @@ pub const M1: Sides = &[
 
 /// In octets.
 pub const MEMORY: Sides = &[
-    (0, &[12, 24, 24_564, 24_576]),
-    (1, &[0, 1, 11, 13, 23, 25, 24_575, 24_577, 24_588, 49_152]),
+    (0, &[16, 32, 32_752, 32_768]),
+    (1, &[0, 1, 15, 17, 31, 33, 32_767, 32_769, 32_784, 65_536]),
+    // Of records of 12 octets.
+    (1, &[12, 24, 24_564]),
 ];
 
 /// The limit's, among them the number below 0 that lies nearest to it.
@@ -50,6 +52,26 @@ const LIMITS: [(u32, &[f64]); 2] = [
             f64::INFINITY,
             f64::NEG_INFINITY,
             f64::NAN,
+        ],
+    ),
+];
+
+/// A bo's.
+const OFFSETS: [(u32, &[i32]); 2] = [
+    (0, &[-127, -126, -1, 0, 1, 126, 127]),
+    (
+        6,
+        &[
+            -129,
+            -128,
+            128,
+            129,
+            254,
+            255,
+            256,
+            i32::MIN,
+            i32::MIN + 1,
+            i32::MAX,
         ],
     ),
 ];
@@ -79,6 +101,8 @@ pub const T: Record = Record {
     superframes: 2,
     length: 5,
     far: 0,
+    bo: 0,
+    zeros: [0; 3],
 };
 
 pub const STATE: State = State {
@@ -136,11 +160,7 @@ fn codec(pair: &mut Pair, tried: &mut usize) -> Result<(), String> {
     each(tried, "write, bs, octets", starts, |bs| {
         write(Fields { d, bs, ..base })
     })?;
-    let sides: [(u32, &[i32]); 2] = [
-        (0, &[-127, -1, 0, 127]),
-        (6, &[-129, -128, 128, 129, 254, i32::MIN, i32::MAX]),
-    ];
-    each(tried, "write, bo", &sides, |bo| {
+    each(tried, "write, bo", &OFFSETS, |bo| {
         write(Fields { bo, ..base })
     })?;
     let sides: Sides = &[(0, &[9]), (1, &[0, 1, 8, 10, 18])];
@@ -170,21 +190,24 @@ fn codec(pair: &mut Pair, tried: &mut usize) -> Result<(), String> {
     each(tried, "pick, n", sides, |n| pair.pick(n, 5))
 }
 
+/// What most of the reserves below ask for.
+const ASKED: Reservation = Reservation {
+    station: 2,
+    rate: 3,
+    superframes: 2,
+    bs: 5,
+    length: 5,
+    bo: 0,
+    distance: UNKNOWN,
+    limit: 150.0,
+};
+
 fn reserve(pair: &mut Pair, tried: &mut usize) -> Result<(), String> {
-    let base = Reservation {
-        station: 2,
-        rate: 3,
-        superframes: 2,
-        bs: 5,
-        length: 5,
-        distance: UNKNOWN,
-        limit: 150.0,
-    };
     let mut ask =
         |asked: Reservation, capacity: usize| pair.reserve(&mut table(T, STATE, capacity), &asked);
     each(tried, "reserve, station", STATION, |station| {
         // Station 1 holds T itself.
-        let elsewhere = Reservation { bs: 6, ..base };
+        let elsewhere = Reservation { bs: 6, ..ASKED };
         ask(
             Reservation {
                 station,
@@ -195,33 +218,39 @@ fn reserve(pair: &mut Pair, tried: &mut usize) -> Result<(), String> {
     })?;
     let sides: Sides = &[(0, &[1, 59, 60]), (14, &[0, 61, 256 + 3, MAX])];
     each(tried, "reserve, rate", sides, |rate| {
-        ask(Reservation { rate, ..base }, 3)
+        ask(Reservation { rate, ..ASKED }, 3)
     })?;
     let sides: Sides = &[(0, &[1, 2, 3]), (15, &[0]), (9, &[4, 256 + 2, MAX])];
     each(tried, "reserve, superframes", sides, |superframes| {
         let asked = Reservation {
             superframes,
-            ..base
+            ..ASKED
         };
         ask(asked, 3)
     })?;
     let sides: Sides = &[(0, &[1, 31, 32]), (9, &[0, 33, 256 + 5, MAX])];
     each(tried, "reserve, length", sides, |length| {
-        ask(Reservation { length, ..base }, 3)
+        ask(Reservation { length, ..ASKED }, 3)
     })?;
     let sides: Sides = &[(0, &[2, 3, 254, 255]), (5, &[0, 1, 256, 256 + 5, MAX])];
     each(tried, "reserve, bs", sides, |bs| {
-        ask(Reservation { bs, ..base }, 3)
+        ask(Reservation { bs, ..ASKED }, 3)
+    })?;
+    each(tried, "reserve, bo", &OFFSETS, |bo| {
+        ask(Reservation { bo, ..ASKED }, 3)
     })?;
     each(tried, "reserve, limit", &LIMITS, |limit| {
-        ask(Reservation { limit, ..base }, 3)
+        ask(Reservation { limit, ..ASKED }, 3)
     })?;
     let sides: Sides = &[(0, &[2, 3, 2_048]), (17, &[1])];
     each(tried, "reserve, capacity", sides, |capacity| {
-        ask(base, capacity as usize)
+        ask(ASKED, capacity as usize)
     })?;
     // T again, which is held, and T with one number changed.
-    let again = Reservation { station: 1, ..base };
+    let again = Reservation {
+        station: 1,
+        ..ASKED
+    };
     let held = [
         again,
         Reservation {
@@ -241,9 +270,68 @@ fn reserve(pair: &mut Pair, tried: &mut usize) -> Result<(), String> {
             ..again
         },
         Reservation { length: 4, ..again },
+        Reservation { bo: 1, ..again },
     ];
     let sides: [(u32, &[Reservation]); 2] = [(16, &held), (0, &not_held)];
-    each(tried, "reserve", &sides, |asked| ask(asked, 2))
+    each(tried, "reserve", &sides, |asked| ask(asked, 2))?;
+    // And with a bo.
+    let moved = || table(Record { bo: 10, ..T }, STATE, 2);
+    let sides: [(u32, &[i32]); 3] = [
+        (16, &[10]),
+        (0, &[-127, -10, -1, 0, 9, 11, 127]),
+        (6, &[10 - 256, 10 + 256]),
+    ];
+    each(tried, "reserve beside bo 10", &sides, |bo| {
+        pair.reserve(&mut moved(), &Reservation { bo, ..again })
+    })
+}
+
+/// Where the further series would begin, against now: an M1, the superframes,
+/// bs, and the lowest bo with which it doesn't begin before now. Where that is
+/// below the range, every bo will do.
+const BEGINNINGS: [(u32, u32, u32, i32); 14] = [
+    (60, 1, 2, -62),
+    (60, 1, 3, -63),
+    (60, 1, 65, -125),
+    (60, 1, 66, -126),
+    (60, 1, 67, -127),
+    (60, 1, 68, -128),
+    (60, 1, 255, -315),
+    (60, 2, 2, -122),
+    (60, 2, 6, -126),
+    (60, 2, 7, -127),
+    (60, 3, 2, -182),
+    (120, 1, 2, -122),
+    (120, 2, 2, -242),
+    (180, 1, 2, -182),
+];
+
+fn beginnings(pair: &mut Pair, tried: &mut usize) -> Result<(), String> {
+    for (m1, superframes, bs, lowest) in BEGINNINGS {
+        for now in [0, 1, 100, 126, 127, 128, LATEST - 1, LATEST] {
+            let state = State { m1, now, count: 0 };
+            for bo in -130..=130 {
+                let refusal = match bo {
+                    ..=-128 | 128.. => 6,
+                    0 => 0,
+                    bo if bo < lowest => 24,
+                    _ => 0,
+                };
+                let asked = Reservation {
+                    superframes,
+                    bs,
+                    bo,
+                    ..ASKED
+                };
+                let mut channel = Channel::holding(&[0; RECORD], state);
+                let given = pair.reserve(&mut channel, &asked)?;
+                let what = format!("reserve at {state:?}, {asked:?}");
+                expect(&what, refusal, given.err().unwrap_or(0))?;
+                *tried += 1;
+            }
+        }
+    }
+    Ok(())
 }
 
 /// Clock, distance, wipe and slot state.
@@ -348,7 +436,7 @@ fn open(pair: &mut Pair, tried: &mut usize) -> Result<(), String> {
     each(tried, "open, octets", MEMORY, |octets| {
         ask(octets as usize, 4500)
     })?;
-    each(tried, "open, M1", M1, |m1| ask(36, m1))
+    each(tried, "open, M1", M1, |m1| ask(3 * RECORD, m1))
 }
 
 pub fn check(pair: &mut Pair) -> Verdict {
@@ -356,6 +444,7 @@ pub fn check(pair: &mut Pair) -> Verdict {
     codec(pair, &mut tried)?;
     open(pair, &mut tried)?;
     reserve(pair, &mut tried)?;
+    beginnings(pair, &mut tried)?;
     changes(pair, &mut tried)?;
     search(pair, &mut tried)?;
     Ok(format!(

@@ -227,11 +227,17 @@ fn before_end(draw: &mut Draw, m1: u32) -> Option<u32> {
     })
 }
 
+/// Every M1 so many times, and 60 and 120 more often: there a further series can
+/// begin and end before the first.
+fn m1s(times: u32, more: u32) -> impl Iterator<Item = u32> {
+    let every = (0..256 * times).map(|round| 60 * (1 + round % 256));
+    every.chain((0..2 * more).map(|round| 60 * (1 + round % 2)))
+}
+
 pub fn small(pair: &mut Pair) -> Verdict {
     let mut draw = Draw::from_seed(301);
     let mut seen = Seen::default();
-    for round in 0..256 * 60 {
-        let m1 = 60 * (1 + round % 256);
+    for m1 in m1s(60, 1_000) {
         let plot = Plot {
             capacity: draw.one_of(&[1, 1, 2, 3, 5, 8]),
             m1,
@@ -249,15 +255,14 @@ pub fn small(pair: &mut Pair) -> Verdict {
 pub fn middling(pair: &mut Pair) -> Verdict {
     let mut draw = Draw::from_seed(302);
     let mut seen = Seen::default();
-    for round in 0..256 * 2 {
-        let m1 = 60 * (1 + round % 256);
+    for m1 in m1s(2, 32) {
         let plot = Plot {
             capacity: 64,
             m1,
             before_end: before_end(&mut draw, m1),
             reserves: 2,
             refilled: true,
-            sparse: round % 2 == 0,
+            sparse: once_in(&mut draw, 2),
             steps: 200,
         };
         play(pair, &mut draw, &plot, &mut seen)?;

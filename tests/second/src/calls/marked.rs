@@ -9,6 +9,7 @@ use crate::groups::{P1, P1_FIELDS, P2};
 use crate::paper::codec::{Destination, Fields};
 use crate::paper::distance::{Distance, UNKNOWN};
 use crate::paper::search::Wish;
+use crate::paper::slots;
 use crate::paper::table::{Measure, Record, Reservation, Table, RECORD};
 use crate::paper::Answer;
 use crate::report::Verdict;
@@ -27,6 +28,7 @@ const T: Reservation = Reservation {
     superframes: 2,
     bs: 5,
     length: 5,
+    bo: 0,
     distance: UNKNOWN,
     limit: 150.0,
 };
@@ -103,7 +105,7 @@ fn codec_cases(pair: &mut Pair) -> Result<(), String> {
 
 fn record_t(pair: &mut Pair) -> Result<(), String> {
     let channel = &mut alone(pair, UNKNOWN)?;
-    let octets = [1, 0, 0, 0, 105, 0, 0, 0, 3, 2, 5, 0];
+    let octets = [1, 0, 0, 0, 105, 0, 0, 0, 3, 2, 5, 0, 0, 0, 0, 0];
     expect("T's octets", &octets[..], channel.memory.octets())?;
     let table = Table::held(channel.memory.octets(), channel.state);
     let last = table.map(|table| table.records[0].last_slot(4500));
@@ -125,6 +127,91 @@ fn record_t(pair: &mut Pair) -> Result<(), String> {
     let channel = &mut alone(pair, FAR)?;
     let nine = (Ok(3), [110, 111, 105]);
     expect("P9", nine, search(pair, channel, 105, 111)?)
+}
+
+/// Record T with bo 10.
+fn record_t_moved(pair: &mut Pair) -> Result<(), String> {
+    let channel = &mut opened(pair, 2, 4500, 100)?;
+    let asked = Reservation { bo: 10, ..T };
+    expect("bo 10", Ok(0), pair.reserve(channel, &asked)?)?;
+    let octets = [1, 0, 0, 0, 105, 0, 0, 0, 3, 2, 5, 0, 10, 0, 0, 0];
+    let memory = &channel.memory.octets()[..RECORD];
+    expect("bo 10, octets", &octets[..], memory)?;
+    let record = Record::of_octets(memory);
+    let starts: Vec<i64> = slots::blocks(&record, 4500)
+        .map(|block| block.start)
+        .collect();
+    let blocks = vec![105, 1605, 3105, 4605, 6105, 7605, 9115, 10615, 12115];
+    expect("bo 10, blocks", blocks, starts)?;
+    expect("bo 10, last slot", 12119, record.last_slot(4500))?;
+    for (slot, state) in [
+        (7609, 2),
+        (7610, 0),
+        // Where the blocks would be if they hadn't moved.
+        (9105, 0),
+        (9114, 0),
+        (9115, 2),
+        (9119, 2),
+        (9120, 0),
+        (12114, 0),
+        (12115, 2),
+        (12119, 2),
+        (12120, 0),
+    ] {
+        let given = pair.slot_state(channel, slot)?;
+        expect(&format!("bo 10, slot {slot}"), Ok(state), given)?;
+    }
+    let found = (Ok(2), [9120, 9121, 0]);
+    expect("bo 10", found, search(pair, channel, 9115, 9121)?)?;
+    let none = (Err(21), [0; 3]);
+    expect("bo 10", none, search(pair, channel, 9114, 9114)?)?;
+    // The same again is held; with another offset it isn't.
+    expect("bo 10, again", Err(16), pair.reserve(channel, &asked)?)?;
+    let other = Reservation { bo: 9, ..T };
+    expect("bo 9", Ok(0), pair.reserve(channel, &other)?)?;
+    expect("bo 9, last slot", Ok(0), pair.clock(channel, 12118)?)?;
+    expect("bo 9, gone", Ok(1), pair.clock(channel, 12119)?)?;
+    expect("bo 10, kept", 1, channel.state.count)?;
+    expect("bo 10, gone", Ok(1), pair.clock(channel, 12120)?)?;
+    expect("bo 10, gone", &[0; 2 * RECORD][..], channel.memory.octets())
+}
+
+/// In a superframe of 60 slots a further series can begin before the first slot,
+/// but not before now, and end before the first series does.
+fn short_superframe(pair: &mut Pair) -> Result<(), String> {
+    let asked = Reservation {
+        rate: 1,
+        superframes: 1,
+        bs: 2,
+        length: 1,
+        bo: -62,
+        ..T
+    };
+    for now in [0, 100, 1_000_000_000] {
+        let channel = &mut opened(pair, 1, 60, now)?;
+        let refused = Reservation { bo: -63, ..asked };
+        expect("bo -63", Err(24), pair.reserve(channel, &refused)?)?;
+        expect("bo -63", &[0; RECORD][..], channel.memory.octets())?;
+        expect("bo -62", Ok(0), pair.reserve(channel, &asked)?)?;
+        expect("bo -62, now", Ok(2), pair.slot_state(channel, now)?)?;
+    }
+    // Slots 170 and 103.
+    let channel = &mut opened(pair, 1, 60, 100)?;
+    let asked = Reservation {
+        bs: 70,
+        bo: -127,
+        ..asked
+    };
+    expect("bo -127", Ok(0), pair.reserve(channel, &asked)?)?;
+    for (slot, state) in [(102, 0), (103, 2), (104, 0), (169, 0), (170, 2), (171, 0)] {
+        let given = pair.slot_state(channel, slot)?;
+        expect(&format!("bo -127, slot {slot}"), Ok(state), given)?;
+    }
+    for (clock, gone) in [(104, 0), (170, 0), (171, 1)] {
+        let given = pair.clock(channel, clock)?;
+        expect(&format!("bo -127, clock {clock}"), Ok(gone), given)?;
+    }
+    Ok(())
 }
 
 fn offsets(pair: &mut Pair) -> Result<(), String> {
@@ -194,7 +281,9 @@ fn slips(pair: &mut Pair) -> Result<(), String> {
 pub fn check(pair: &mut Pair) -> Verdict {
     codec_cases(pair)?;
     record_t(pair)?;
+    record_t_moved(pair)?;
+    short_superframe(pair)?;
     offsets(pair)?;
     slips(pair)?;
-    Ok("P1 to P11 and the four slips as the paper has them".to_string())
+    Ok("P1 to P11, the four slips and the block offset as the paper has them".to_string())
 }

@@ -80,6 +80,7 @@ pub fn check(report: &mut Report) {
     add("the walk", walks::check);
     add("log records by hand", replay::by_hand);
     add("each octet of a log record", replay::every_octet);
+    add("block offsets of a log record", replay::block_offsets);
     add("operations of a log record", replay::operations);
     add("lengths of a log record", replay::lengths);
     add("whole miles", replay::whole_miles);

@@ -1,5 +1,7 @@
 //! Numbers and tables to ask about, drawn near the edges of the paper.
 
+use std::ops::Range;
+
 use super::pair::Channel;
 use crate::archive::Lent;
 use crate::draw::Draw;
@@ -52,9 +54,10 @@ pub fn number(draw: &mut Draw, state: State) -> u32 {
 }
 
 /// One of the 256 figures that fit M1; often a low one, where blocks lie close
-/// and overlap.
+/// and overlap, and of 60 and 120 slots, where a further series can begin and
+/// end before the first.
 pub fn m1(draw: &mut Draw) -> u32 {
-    let figures = draw.one_of(&[4, 256, 256]);
+    let figures = draw.one_of(&[2, 4, 256, 256]);
     60 * (1 + draw.below(figures))
 }
 
@@ -79,6 +82,15 @@ fn length(draw: &mut Draw) -> u32 {
     }
 }
 
+/// None, the least, the largest, or any of the 255.
+pub fn bo(draw: &mut Draw) -> i32 {
+    match draw.below(8) {
+        0..=1 => 0,
+        2 => draw.one_of(&[-127, -1, 1, 127]),
+        _ => draw.below(255) as i32 - 127,
+    }
+}
+
 /// Known or not, far or not, in about equal parts.
 pub fn distance(draw: &mut Draw) -> (Distance, f64) {
     let limit = draw.one_of(&[0.0, 1.0, 149.5, 150.0, 4096.0]);
@@ -94,7 +106,8 @@ pub fn distance(draw: &mut Draw) -> (Distance, f64) {
     (distance, limit)
 }
 
-/// An acceptable reservation, unless the table is full or holds it already.
+/// An acceptable reservation, unless the table is full or holds it already, or
+/// in a small superframe the further series begins before now.
 pub fn reservation(draw: &mut Draw) -> Reservation {
     let (distance, limit) = distance(draw);
     Reservation {
@@ -106,8 +119,23 @@ pub fn reservation(draw: &mut Draw) -> Reservation {
             _ => 2 + draw.below(254),
         },
         length: length(draw),
+        bo: bo(draw),
         distance,
         limit,
+    }
+}
+
+/// An offset outside its range, about that with which the further series begins
+/// at now, or any number.
+fn odd_bo(draw: &mut Draw, asked: &Reservation, state: State) -> i32 {
+    let ahead = asked
+        .superframes
+        .wrapping_mul(state.m1)
+        .wrapping_add(asked.bs);
+    match draw.below(4) {
+        0 => draw.number() as i32,
+        1 => 1_u32.wrapping_sub(ahead.wrapping_add(draw.below(3))) as i32,
+        _ => draw.one_of(&[-128, 128, -127, 127, i32::MIN, i32::MAX]),
     }
 }
 
@@ -122,12 +150,13 @@ fn odd_limit(draw: &mut Draw) -> f64 {
 /// Gives one or more of the numbers a value near some edge.
 pub fn spoil_reservation(draw: &mut Draw, asked: &mut Reservation, state: State) {
     loop {
-        match draw.below(6) {
+        match draw.below(7) {
             0 => asked.station = number(draw, state),
             1 => asked.rate = number(draw, state),
             2 => asked.superframes = number(draw, state),
             3 => asked.bs = number(draw, state),
             4 => asked.length = number(draw, state),
+            5 => asked.bo = odd_bo(draw, asked, state),
             _ => asked.limit = odd_limit(draw),
         }
         if !once_in(draw, 4) {
@@ -160,8 +189,8 @@ pub fn held(draw: &mut Draw, table: &Table) -> Option<Record> {
 }
 
 /// Narrows a slot of the paper's sums to the width of a call.
-fn narrow(slot: u64) -> u32 {
-    slot.min(u32::MAX.into()) as u32
+fn narrow(slot: i64) -> u32 {
+    slot.clamp(0, u32::MAX.into()) as u32
 }
 
 /// Mostly the slot itself if it may be asked about, else one that may.
@@ -185,12 +214,10 @@ pub fn slot(draw: &mut Draw, channel: &Channel) -> u32 {
     let slot = match (record, draw.below(8)) {
         (_, 0) => number(draw, state),
         (Some(record), 1..=5) => {
-            let blocks = u32::from(record.superframes) * u32::from(record.rate);
-            let block = draw.below(blocks) as usize;
-            let block = slots::blocks(&record, state.m1).nth(block);
-            let block = block.expect("as many blocks as counted");
-            let end = draw.one_of(&[block.start, block.end]) + u64::from(draw.below(3));
-            narrow(end.saturating_sub(1))
+            let blocks: Vec<Range<i64>> = slots::blocks(&record, state.m1).collect();
+            let block = &blocks[draw.below(blocks.len() as u32) as usize];
+            let end = draw.one_of(&[block.start, block.end]);
+            narrow(end + i64::from(draw.below(3)) - 1)
         }
         _ => state.now.wrapping_add(draw.below(state.m1.max(1))),
     };
@@ -211,9 +238,7 @@ pub fn clock_of(draw: &mut Draw, state: State, table: Option<&Table>) -> u32 {
         (_, 0) => number(draw, state),
         (_, 1) => state.now.wrapping_add(draw.below(3 * state.m1.max(1))),
         (_, 2) => state.now,
-        (Some(record), 3..=6) => {
-            narrow((record.last_slot(state.m1) + u64::from(draw.below(3))).saturating_sub(1))
-        }
+        (Some(record), 3..=6) => narrow(record.last_slot(state.m1) + i64::from(draw.below(3)) - 1),
         _ => state.now.wrapping_add(draw.below(9)),
     }
 }
@@ -272,7 +297,7 @@ pub fn place(draw: &mut Draw, state: State) -> u32 {
 fn record(draw: &mut Draw, m1: u32, now: u32, nears: u32) -> Record {
     loop {
         let any = draw.below(LATEST_FIRST + 1);
-        let near_now = now.saturating_sub(draw.below(3 * m1)) + draw.below(300);
+        let near_now = now.saturating_sub(draw.below(4 * m1)) + draw.below(300);
         let record = Record {
             station: station(draw),
             first: match draw.below(16) {
@@ -285,11 +310,25 @@ fn record(draw: &mut Draw, m1: u32, now: u32, nears: u32) -> Record {
             superframes: 1 + draw.below(3) as u8,
             length: length(draw) as u8,
             far: u8::from(!once_in(draw, nears)),
+            bo: bo(draw) as i8,
+            zeros: [0; 3],
         };
-        if record.last_slot(m1) >= u64::from(now) {
+        if record.is_sound(m1, now) {
             return record;
         }
     }
+}
+
+/// Whether it has a further series, whether that begins before the first one,
+/// and whether it ends before that one does.
+pub fn further(record: &Record, m1: u32) -> [bool; 3] {
+    let start = record.further(m1);
+    let last_block = slots::blocks(record, m1).last();
+    [
+        start.is_some(),
+        start.is_some_and(|start| start < record.first.into()),
+        last_block.is_some_and(|block| block.end <= record.last_slot(m1)),
+    ]
 }
 
 /// A slot for a table's clock: at the start, near the end, or between.

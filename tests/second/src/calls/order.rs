@@ -41,8 +41,8 @@ fn apart(call: Call) -> &'static [(u32, u32)] {
         Call::Parameter => &[(22, 10)],
         // Behind now and above the limit: such a now isn't sound.
         Call::Clock | Call::SlotState | Call::StepClock => &[(12, 13)],
-        // No sound table holds what the first four refuse.
-        Call::Reserve | Call::StepReserve => &[(8, 16), (14, 16), (15, 16), (9, 16)],
+        // No sound table holds what these five refuse.
+        Call::Reserve | Call::StepReserve => &[(8, 16), (14, 16), (15, 16), (9, 16), (6, 16)],
         _ => &[],
     }
 }
@@ -60,16 +60,20 @@ const HELD: Record = Record {
     superframes: 1,
     length: 1,
     far: 0,
+    bo: 0,
+    zeros: [0; 3],
 };
 
 /// Records and room for so many more; not sound if 11 is to be earned.
 fn table(draw: &mut Draw, mut records: Vec<Record>, room: usize, earned: &Earned) -> Channel {
     if earned.has(11) {
-        match draw.below(5) {
+        match draw.below(7) {
             0 => records[0].far = 2,
             1 => records[0].rate = 61,
             2 => records[0].superframes = 0,
             3 => records[0].length = 33,
+            4 => records[0].bo = -128,
+            5 => records[0].zeros[draw.below(3) as usize] = 1,
             _ => records[0].station = STATIONS,
         }
     }
@@ -96,6 +100,22 @@ fn station(draw: &mut Draw, earned: &Earned) -> u32 {
     }
 }
 
+/// A bo that earns 6 and 24 or not, with superframes and a bs that go with it.
+/// What is outside the range is -128 once it is cut to an octet.
+fn offset(draw: &mut Draw, earned: &Earned, asked: &mut Reservation) {
+    asked.bo = match (earned.has(6), earned.has(24)) {
+        (false, false) => draw.one_of(&[0, 1, 127]),
+        (false, true) => draw.one_of(&[-127, -66]),
+        (true, false) => draw.one_of(&[-128, 128, 128 + 256, i32::MAX - 127]),
+        (true, true) => draw.one_of(&[-128, -128 - 256, i32::MIN + 128]),
+    };
+    if earned.has(24) {
+        asked.superframes = asked.superframes.min(1);
+    } else if earned.has(6) {
+        asked.bs = if earned.has(5) { 256 } else { 200 };
+    }
+}
+
 /// What a reserve asks for, and a table for it.
 fn reserve(draw: &mut Draw, earned: &Earned) -> (Channel, Reservation) {
     let mut asked = Reservation {
@@ -104,6 +124,7 @@ fn reserve(draw: &mut Draw, earned: &Earned) -> (Channel, Reservation) {
         superframes: 2,
         bs: 5,
         length: 5,
+        bo: 0,
         distance: UNKNOWN,
         limit: limit(draw, earned),
     };
@@ -115,22 +136,29 @@ fn reserve(draw: &mut Draw, earned: &Earned) -> (Channel, Reservation) {
     }
     if earned.has(9) {
         asked.length = draw.one_of(&[0, 33, u32::MAX]);
-        if !earned.has(15) && draw.below(2) == 0 {
+        if !earned.has_any(&[15, 24]) && draw.below(2) == 0 {
             (asked.length, asked.superframes) = (5, draw.one_of(&[4, u32::MAX]));
         }
     }
     if earned.has(5) {
-        asked.bs = draw.one_of(&[0, 1, 256]);
+        asked.bs = draw.one_of(if earned.has(24) {
+            &[0, 1]
+        } else {
+            &[0, 1, 256]
+        });
     }
+    offset(draw, earned, &mut asked);
     let mut records = vec![HELD];
     if earned.has(16) {
         records.push(Record {
             station: 1,
             first: STATE.now + asked.bs,
             rate: 3,
-            superframes: 2,
+            superframes: asked.superframes as u8,
             length: 5,
             far: draw.below(2) as u8,
+            bo: asked.bo as i8,
+            zeros: [0; 3],
         });
     }
     let room = if earned.has(17) { 0 } else { 2 };
@@ -285,15 +313,16 @@ fn open(pair: &mut Pair, draw: &mut Draw, earned: &Earned) -> Result<Answer, Str
         &[60, 15_360]
     });
     let octets = draw.one_of(if earned.has(1) {
-        &[0, 11, 24_588]
+        &[0, 15, 32_784]
     } else {
-        &[12, 24_576]
+        &[16, 32_768]
     });
     pair.open(&mut Channel::holding(&vec![0xEE; octets], STATE), m1)
 }
 
 /// A log record with the limit that 18 asks for, and where 23 is to be earned
-/// of another length or without one of its closing zeros.
+/// of another length or without one of its closing zeros. The first of four is
+/// a reserve's bo.
 fn step(
     pair: &mut Pair,
     draw: &mut Draw,
@@ -313,7 +342,11 @@ fn step(
         match draw.below(3) {
             0 => octets.truncate(1 + draw.below(ENTRY as u32 - 1) as usize),
             1 => octets.resize(ENTRY + 1 + draw.below(40) as usize, 0),
-            _ => octets[20 + draw.below(4) as usize] = 1 + draw.below(255) as u8,
+            _ => {
+                let zeros = if entry.operation == 2 { 3 } else { 4 };
+                let place = ENTRY - 1 - draw.below(zeros) as usize;
+                octets[place] = 1 + draw.below(255) as u8;
+            }
         }
     }
     pair.step(&mut channel, &octets)

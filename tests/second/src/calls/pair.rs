@@ -47,7 +47,11 @@ impl Call {
         (Call::Parameter, "parameter", &[22, 10]),
         (Call::Open, "open", &[10, 1]),
         (Call::Clock, "clock", &[11, 12, 13]),
-        (Call::Reserve, "reserve", &[11, 8, 14, 15, 9, 5, 18, 16, 17]),
+        (
+            Call::Reserve,
+            "reserve",
+            &[11, 8, 14, 15, 9, 5, 6, 24, 18, 16, 17],
+        ),
         (Call::Distance, "distance", &[11, 8, 18]),
         (Call::Wipe, "wipe", &[11, 8]),
         (Call::SlotState, "slot state", &[11, 12, 13]),
@@ -58,7 +62,7 @@ impl Call {
         (
             Call::StepReserve,
             "step of a reserve",
-            &[23, 11, 8, 14, 15, 9, 5, 18, 16, 17],
+            &[23, 11, 8, 14, 15, 9, 5, 6, 24, 18, 16, 17],
         ),
         (Call::StepDistance, "step of a distance", &[23, 11, 8, 18]),
         (Call::StepWipe, "step of a wipe", &[23, 11, 8]),

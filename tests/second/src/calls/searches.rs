@@ -22,6 +22,8 @@ struct Seen {
     none: u64,
     /// Records of each of the kinds below.
     kinds: [u64; 4],
+    /// Those with a further series of each kind.
+    further: [u64; 5],
 }
 
 impl Seen {
@@ -30,11 +32,15 @@ impl Seen {
         let [free, reusable, taken] = self.slots;
         let [level_0, level_1] = self.levels;
         let [earlier, late, undivided, overlapping] = self.kinds;
+        let [further, before_first, before_end, before_now, alone] = self.further;
         let told = format!(
             "slots {free} free, {reusable} reusable, {taken} taken; starts {level_0} of level 0, \
              {level_1} of level 1; {} searches gave both, {} none; {} judged reserved slots past \
              1000000000; records {earlier} made earlier, {late} beginning past 1000000000, \
-             {undivided} whose rate leaves a remainder, {overlapping} whose blocks overlap",
+             {undivided} whose rate leaves a remainder, {overlapping} whose blocks overlap, \
+             {further} with a further series; {before_first} of these begin before the first, \
+             {before_end} end before it does, {before_now} begin before now, {alone} are all that \
+             is left",
             self.both, self.none, self.past
         );
         let seldom = self
@@ -44,7 +50,8 @@ impl Seen {
             .chain([&self.both, &self.none, &self.past])
             .chain(&self.kinds)
             .any(|&times| times < least);
-        if seldom {
+        // Only small superframes have some of these.
+        if seldom || self.further.iter().any(|&times| times < least / 2) {
             Err(format!("too little of something: {told}"))
         } else {
             Ok(told)
@@ -54,7 +61,7 @@ impl Seen {
 
 /// The marking form of our own reading against its plain form.
 fn marking(draw: &mut Draw, table: &Table) -> Result<(), String> {
-    let start = u64::from(table.now) + u64::from(draw.below(2 * table.m1));
+    let start = i64::from(table.now) + i64::from(draw.below(2 * table.m1));
     let marked = slots::judge_all(table, start..start + 40);
     for (slot, &marked) in (start..).zip(&marked) {
         if marked != slots::judge(table, slot) {
@@ -84,8 +91,8 @@ fn ask(
     let (wish, mut list) = near::wish(draw, channel);
     let answer = pair.search(channel, &wish, &mut list)?;
     if matches!(answer, Ok(_) | Err(21)) {
-        let end = u64::from(wish.hi) + u64::from(wish.length);
-        let past = slots::judge_all(table, end.min(u64::from(LATEST) + 1)..end);
+        let end = i64::from(wish.hi) + i64::from(wish.length);
+        let past = slots::judge_all(table, end.min(i64::from(LATEST) + 1)..end);
         seen.past += u64::from(past.iter().any(|&slot| slot != Slot::Free));
     }
     seen.none += u64::from(answer == Err(21));
@@ -93,8 +100,8 @@ fn ask(
     // Each start found, judged by itself.
     let mut levels = [0; 2];
     for start in starts(list.octets(), found) {
-        let start_slot = u64::from(start);
-        let judged = slots::judge_all(table, start_slot..start_slot + u64::from(wish.length));
+        let start_slot = i64::from(start);
+        let judged = slots::judge_all(table, start_slot..start_slot + i64::from(wish.length));
         if judged.contains(&Slot::Taken) {
             return Err(format!("start {start} of {wish:?} has a taken slot"));
         }
@@ -133,6 +140,9 @@ fn run(
         for (times, is) in seen.kinds.iter_mut().zip(kinds(record, &table)) {
             *times += u64::from(is);
         }
+        for (times, is) in seen.further.iter_mut().zip(further(record, &table)) {
+            *times += u64::from(is);
+        }
     }
     for _ in 0..asked {
         ask(pair, draw, channel, &table, seen)?;
@@ -152,6 +162,20 @@ fn kinds(record: &Record, table: &Table) -> [bool; 4] {
     ]
 }
 
+/// Whether it has a further series, whether that begins before the first, ends
+/// before it does, begins before now, or is all that is left of the record.
+fn further(record: &Record, table: &Table) -> [bool; 5] {
+    let now = i64::from(table.now);
+    let [further, before_first, before_end] = near::further(record, table.m1);
+    [
+        further,
+        before_first,
+        before_end,
+        record.further(table.m1).is_some_and(|start| start < now),
+        Record { bo: 0, ..*record }.last_slot(table.m1) < now,
+    ]
+}
+
 pub fn tables(pair: &mut Pair) -> Verdict {
     let mut draw = Draw::from_seed(401);
     let mut seen = Seen::default();
@@ -167,8 +191,8 @@ pub fn tables(pair: &mut Pair) -> Verdict {
 pub fn large(pair: &mut Pair) -> Verdict {
     let mut draw = Draw::from_seed(402);
     let mut seen = Seen::default();
-    for count in [0, 1, 100, 1_000, 2_047, 2_048] {
-        for _ in 0..20 {
+    for count in [0, 1, 30, 100, 1_000, 2_047, 2_048] {
+        for _ in 0..40 {
             let mut channel = near::table(&mut draw, 2_048, count);
             run(pair, &mut draw, &mut channel, 15, &mut seen)?;
         }

@@ -22,6 +22,7 @@ pub fn by_every_call(pair: &mut Pair, channel: &Channel) -> Result<bool, String>
         superframes: 1,
         bs: 9,
         length: 3,
+        bo: 0,
         distance: UNKNOWN,
         limit: 150.0,
     };
@@ -145,6 +146,21 @@ fn records(pair: &mut Pair, tried: &mut usize) -> Result<(), String> {
         ..T
     })?;
     each_octet(pair, tried, "far", 0..=1, |far| Record { far, ..T })?;
+    let offsets: Vec<u32> = (0..=255).filter(|&octet| octet != 128).collect();
+    each(pair, tried, "bo", &[(0, &offsets), (11, &[128])], |octet| {
+        let bo = octet as u8 as i8;
+        table(Record { bo, ..T }, STATE, 2)
+    })?;
+    for place in 0..3 {
+        // Beside a bo, and beside none.
+        for bo in [0, 10, -1] {
+            each_octet(pair, tried, "a zero", 0..=0, |octet| {
+                let mut zeros = [0; 3];
+                zeros[place] = octet;
+                Record { bo, zeros, ..T }
+            })?;
+        }
+    }
     // T's last slot is 7609.
     let sides: Sides = &[(0, &[7608, 7609]), (11, &[7610, 7611, LATEST])];
     each(pair, tried, "T at clock", sides, |now| {
@@ -183,9 +199,92 @@ fn records(pair: &mut Pair, tried: &mut usize) -> Result<(), String> {
     )
 }
 
+/// Where the further series begins, against slot 0: an M1, the superframes, the
+/// first slot, and the lowest bo with which it doesn't begin below. Where that
+/// is below the range, every bo will do.
+const BEGINNINGS: [(u32, u8, u32, i8); 13] = [
+    (60, 1, 0, -60),
+    (60, 1, 1, -61),
+    (60, 1, 40, -100),
+    (60, 1, 66, -126),
+    (60, 1, 67, -127),
+    (60, 1, 68, -128),
+    (60, 2, 0, -120),
+    (60, 2, 6, -126),
+    (60, 2, 7, -127),
+    (60, 3, 0, -128),
+    (120, 1, 0, -120),
+    (120, 1, 7, -127),
+    (120, 2, 0, -128),
+];
+
+/// Records of blocks of five slots, from slot 200 on: an M1, rate, superframes,
+/// bo, and their last slot. The further series ends later or not.
+const ENDS: [(u32, u8, u8, i8, u32); 20] = [
+    (60, 1, 1, 0, 204),
+    (60, 1, 1, -127, 204),
+    (60, 1, 1, -61, 204),
+    (60, 1, 1, -60, 204),
+    (60, 1, 1, -59, 205),
+    (60, 1, 1, -1, 263),
+    (60, 1, 1, 1, 265),
+    (60, 1, 1, 127, 391),
+    (60, 1, 2, -127, 264),
+    (60, 1, 2, -59, 265),
+    (60, 7, 1, -60, 252),
+    (60, 7, 1, -59, 253),
+    (60, 7, 3, -127, 372),
+    (120, 1, 1, -127, 204),
+    (120, 1, 1, -119, 205),
+    (120, 1, 3, -120, 444),
+    (180, 1, 1, -127, 257),
+    (4_500, 3, 2, 10, 12_214),
+    (4_500, 3, 2, -127, 12_077),
+    (15_360, 60, 3, 127, 61_515),
+];
+
+fn further_series(pair: &mut Pair, tried: &mut usize) -> Result<(), String> {
+    for (m1, superframes, first, lowest) in BEGINNINGS {
+        for bo in -127..=127 {
+            let record = Record {
+                first,
+                superframes,
+                bo,
+                ..T
+            };
+            for now in [0, first] {
+                let state = State { m1, now, count: 1 };
+                let sound = by_every_call(pair, &table(record, state, 2))?;
+                let what = format!("{record:?} at {state:?} sound");
+                expect(&what, bo == 0 || bo >= lowest, sound)?;
+                *tried += 1;
+            }
+        }
+    }
+    for (m1, rate, superframes, bo, last) in ENDS {
+        let record = Record {
+            first: 200,
+            rate,
+            superframes,
+            bo,
+            ..T
+        };
+        let what = format!("{record:?} in superframes of {m1} at");
+        let sides: Sides = &[
+            (0, &[0, 199, 200, 204, last - 1, last]),
+            (11, &[last + 1, last + 2, LATEST]),
+        ];
+        each(pair, tried, &what, sides, |now| {
+            table(record, State { m1, now, count: 1 }, 2)
+        })?;
+    }
+    Ok(())
+}
+
 pub fn check(pair: &mut Pair) -> Verdict {
     let mut tried = 0;
     state(pair, &mut tried)?;
     records(pair, &mut tried)?;
+    further_series(pair, &mut tried)?;
     Ok(format!("{tried} sides of edges, each by seven calls"))
 }

@@ -6,18 +6,21 @@ use super::expect;
 use super::near;
 use super::pair::{same_octets, Channel, Pair};
 use crate::draw::Draw;
-use crate::paper::table::{Record, State, MOST_RECORDS};
+use crate::paper::table::{Record, State, MOST_RECORDS, RECORD};
 use crate::paper::walk;
 use crate::report::Verdict;
 
 /// Places past the end of a table that is no longer. Some would lie in it again
 /// if they, or their octets, were counted in 8, 16 or 32 bits.
-const PAST: [u32; 9] = [
+const PAST: [u32; 12] = [
+    16,
     256,
     2_049,
+    4_096,
     65_536,
+    1 << 28,
+    (1 << 28) + 1,
     1 << 30,
-    357_913_942,
     (1 << 31) - 1,
     1 << 31,
     u32::MAX - 1,
@@ -92,9 +95,11 @@ fn sound(pair: &mut Pair, channel: &mut Channel, seen: &mut Seen) -> Result<(), 
 /// Two records and room for one, as the paper has their octets.
 fn by_hand(pair: &mut Pair, seen: &mut Seen) -> Result<(), String> {
     let octets = [
-        [1, 0, 0, 0, 105, 0, 0, 0, 3, 2, 5, 0],
-        [0x01, 0x02, 0x03, 0x04, 0xFF, 0xCA, 0x9A, 0x3B, 60, 1, 32, 1],
-        [0; 12],
+        [1, 0, 0, 0, 105, 0, 0, 0, 3, 2, 5, 0, 10, 0, 0, 0],
+        [
+            1, 2, 3, 4, 0xFF, 0xCA, 0x9A, 0x3B, 60, 1, 32, 1, 0x81, 0, 0, 0,
+        ],
+        [0; RECORD],
     ];
     let records = [
         Record {
@@ -104,6 +109,8 @@ fn by_hand(pair: &mut Pair, seen: &mut Seen) -> Result<(), String> {
             superframes: 2,
             length: 5,
             far: 0,
+            bo: 10,
+            zeros: [0; 3],
         },
         Record {
             station: 0x0403_0201,
@@ -112,6 +119,8 @@ fn by_hand(pair: &mut Pair, seen: &mut Seen) -> Result<(), String> {
             superframes: 1,
             length: 32,
             far: 1,
+            bo: -127,
+            zeros: [0; 3],
         },
     ];
     let state = State {

@@ -3,6 +3,7 @@
 
 use std::ops::Range;
 
+use super::near;
 use super::pair::{Channel, Pair};
 use crate::archive::Lent;
 use crate::draw::Draw;
@@ -72,6 +73,18 @@ fn reserved(first: u32, rate: u32, superframes: u32, length: u32, far: u8) -> Re
         superframes: superframes as u8,
         length: length as u8,
         far,
+        bo: 0,
+        zeros: [0; 3],
+    }
+}
+
+/// The same with an offset, and its further series from a slot on.
+fn moved_to(start: u32, m1: u32, bo: i8, record: Record) -> Record {
+    let first = i64::from(start) - i64::from(record.superframes) * i64::from(m1) - i64::from(bo);
+    Record {
+        first: first as u32,
+        bo,
+        ..record
     }
 }
 
@@ -156,11 +169,11 @@ impl Searches<'_> {
     fn count(&mut self, table: &Table, wish: &Wish, found: &[u8]) {
         let mut levels = [0; 2];
         for entry in found.chunks_exact(4) {
-            let start = u64::from(u32::from_le_bytes([entry[0], entry[1], entry[2], entry[3]]));
-            let block = slots::judge_all(table, start..start + u64::from(wish.length));
+            let start = i64::from(u32::from_le_bytes([entry[0], entry[1], entry[2], entry[3]]));
+            let block = slots::judge_all(table, start..start + i64::from(wish.length));
             levels[usize::from(block.contains(&Slot::Reusable))] += 1;
         }
-        let past = u64::from(LATEST) + 1;
+        let past = i64::from(LATEST) + 1;
         let past = slots::judge_all(table, past..past.max(end(wish).into()));
         let seen = &mut self.seen;
         seen.searches += 1;
@@ -173,16 +186,26 @@ impl Searches<'_> {
     }
 }
 
-/// A record that begins about a slot.
-fn about(draw: &mut Draw, slot: u32) -> Record {
-    let first = (slot + draw.below(64)).saturating_sub(draw.below(64));
-    reserved(
-        first.min(LATEST_FIRST),
-        draw.one_of(&[1, 2, 7, 60]),
-        1 + draw.below(3),
-        draw.one_of(&LENGTHS),
-        draw.one_of(&[NEAR, FAR, FAR]),
-    )
+/// A record that begins about a slot, or whose further series does.
+fn about(draw: &mut Draw, m1: u32, slot: u32) -> Record {
+    loop {
+        let start = (slot + draw.below(64)).saturating_sub(draw.below(64));
+        let record = reserved(
+            start.min(LATEST_FIRST),
+            draw.one_of(&[1, 2, 7, 60]),
+            1 + draw.below(3),
+            draw.one_of(&LENGTHS),
+            draw.one_of(&[NEAR, FAR, FAR]),
+        );
+        let bo = near::bo(draw) as i8;
+        let record = match draw.below(2) {
+            0 => Record { bo, ..record },
+            _ => moved_to(start, m1, bo, record),
+        };
+        if record.is_sound(m1, 0) {
+            return record;
+        }
+    }
 }
 
 /// Windows from slot 0 on, and to 1,000,000,000 and past it.
@@ -197,7 +220,7 @@ pub fn at_the_ends_of_time(pair: &mut Pair) -> Verdict {
                     for count in 0..12 {
                         let records = (0..count).map(|_| {
                             let edge = draw.one_of(&[lo, wish.hi, end(&wish)]);
-                            about(&mut draw, edge)
+                            about(&mut draw, m1, edge)
                         });
                         let records = records.collect();
                         searches.compare(m1, records, wish)?;
@@ -268,10 +291,13 @@ pub fn with_one_record_that_matters(pair: &mut Pair) -> Verdict {
                     for place in [0, 14, 15, 16, 17, count - 1, count] {
                         for slot in [gap.start, gap.end - 1] {
                             for matters in [NEAR, FAR] {
-                                let mut records: Vec<Record> = around.clone().collect();
                                 let one = reserved(slot, 1, 1, 1, matters);
-                                records.insert(place.min(count), one);
-                                searches.compare(m1, records, wish)?;
+                                // By its first block, or by its further one.
+                                for one in [one, moved_to(slot, m1, 127, one)] {
+                                    let mut records: Vec<Record> = around.clone().collect();
+                                    records.insert(place.min(count), one);
+                                    searches.compare(m1, records, wish)?;
+                                }
                             }
                         }
                     }
@@ -315,15 +341,21 @@ pub fn all_far_but_one(pair: &mut Pair) -> Verdict {
 }
 
 /// The blocks of a record that tell: the first ones, those where a superframe
-/// ends and begins, and the last. How far each begins from the first slot.
-fn telling_blocks(m1: u32, rate: u32, superframes: u32) -> Vec<u32> {
-    let blocks = rate * superframes;
-    let mut telling = vec![0, 1, rate - 1, rate, blocks - 1];
-    telling.retain(|&block| block < blocks);
+/// ends and begins, and the last; of a further series the first and the last.
+/// How far each begins from the first slot, which a further one may precede.
+fn telling_blocks(m1: u32, record: &Record) -> Vec<i64> {
+    let rate = usize::from(record.rate);
+    let blocks: Vec<i64> = slots::blocks(record, m1)
+        .map(|block| block.start - i64::from(record.first))
+        .collect();
+    let mut telling = match record.bo {
+        0 => vec![0, 1, rate - 1, rate, blocks.len() - 1],
+        _ => vec![blocks.len() - rate, blocks.len() - 1],
+    };
+    telling.retain(|&block| block < blocks.len());
     telling.sort_unstable();
     telling.dedup();
-    let ahead = |block| block / rate * m1 + block % rate * (m1 / rate);
-    telling.into_iter().map(ahead).collect()
+    telling.into_iter().map(|block| blocks[block]).collect()
 }
 
 /// A block of a record, which begins so far from the first slot, laid about
@@ -333,7 +365,7 @@ fn lay(
     searches: &mut Searches,
     m1: u32,
     record: &Record,
-    ahead: u32,
+    ahead: i64,
     far: u8,
 ) -> Result<(), String> {
     let (lo, length) = (500_000, u32::from(record.length));
@@ -343,7 +375,7 @@ fn lay(
         let wish = range(lo, starts, asked);
         for before in [0, 1, length - 1, length, length + 1] {
             let at = |edge: u32| Record {
-                first: edge - before - ahead,
+                first: (i64::from(edge - before) - ahead) as u32,
                 far,
                 ..*record
             };
@@ -358,6 +390,7 @@ fn lay(
 }
 
 pub fn at_the_ends_of_blocks(pair: &mut Pair) -> Verdict {
+    let mut draw = Draw::from_seed(407);
     let mut searches = Searches::of(pair);
     for (m1, rates) in [
         (60, &[1, 2, 7, 59, 60][..]),
@@ -366,11 +399,17 @@ pub fn at_the_ends_of_blocks(pair: &mut Pair) -> Verdict {
     ] {
         for &rate in rates {
             for superframes in 1..=3 {
-                for ahead in telling_blocks(m1, rate, superframes) {
-                    for length in LENGTHS {
-                        let record = reserved(0, rate, superframes, length, NEAR);
-                        lay(&mut searches, m1, &record, ahead, NEAR)?;
-                        lay(&mut searches, m1, &record, ahead, FAR)?;
+                for length in LENGTHS {
+                    let any = near::bo(&mut draw) as i8;
+                    for bo in [0, draw.one_of(&[-127, 1, 127, any])] {
+                        let record = Record {
+                            bo,
+                            ..reserved(0, rate, superframes, length, NEAR)
+                        };
+                        for ahead in telling_blocks(m1, &record) {
+                            lay(&mut searches, m1, &record, ahead, NEAR)?;
+                            lay(&mut searches, m1, &record, ahead, FAR)?;
+                        }
                     }
                 }
             }
@@ -379,12 +418,16 @@ pub fn at_the_ends_of_blocks(pair: &mut Pair) -> Verdict {
     searches.seen.enough(1_000)
 }
 
-/// A series seen where each of its superframes begins and where the last ends.
+/// A record seen where each of its superframes begins and where the last ends,
+/// the further one too.
 fn follow(searches: &mut Searches, m1: u32, record: Record) -> Result<(), String> {
-    for k in 0..=u32::from(record.superframes) {
+    let superframes = (0..=u32::from(record.superframes)).map(|k| record.first + k * m1);
+    let further = record.further(m1).map(|start| start as u32);
+    let further = further.into_iter().flat_map(|start| [start, start + m1]);
+    for slot in superframes.chain(further) {
         for (starts, length) in [(48, 1), (40, 2), (60, 32)] {
             for before in [0, 1, 34] {
-                let wish = range(record.first + k * m1 - before, starts, length);
+                let wish = range(slot - before, starts, length);
                 searches.compare(m1, vec![record], wish)?;
             }
         }
@@ -392,8 +435,10 @@ fn follow(searches: &mut Searches, m1: u32, record: Record) -> Result<(), String
     Ok(())
 }
 
-/// Series whose blocks leave a slot between them, touch or overlap.
+/// Series whose blocks leave a slot between them, touch or overlap, and further
+/// ones that come as close to the first.
 pub fn where_blocks_touch(pair: &mut Pair) -> Verdict {
+    let mut draw = Draw::from_seed(408);
     let mut searches = Searches::of(pair);
     for m1 in (60..=1_980).step_by(60) {
         for rate in [1, 7, 30, 59, 60] {
@@ -405,6 +450,11 @@ pub fn where_blocks_touch(pair: &mut Pair) -> Verdict {
                     for far in [NEAR, FAR] {
                         let record = reserved(5_000, rate, superframes, length, far);
                         follow(&mut searches, m1, record)?;
+                        // As far back, or short of it, as blocks lie apart.
+                        let back = -(draw.one_of(&[1, spacing - 1, spacing, spacing + 1]) as i64);
+                        let any = near::bo(&mut draw) as i8;
+                        let bo = draw.one_of(&[any, back.max(-127) as i8]);
+                        follow(&mut searches, m1, Record { bo, ..record })?;
                     }
                 }
             }
@@ -454,14 +504,22 @@ pub fn in_small_superframes(pair: &mut Pair) -> Verdict {
             wanted: 1 + draw.below(MOST),
         };
         let records = (0..draw.below(8)).map(|_| {
-            let first = (lo + draw.below(m1)).saturating_sub(draw.below(3 * m1));
-            reserved(
-                first.min(LATEST_FIRST),
-                1 + draw.below(60),
-                1 + draw.below(3),
-                1 + draw.below(4),
-                draw.one_of(&[NEAR, FAR, FAR, FAR]),
-            )
+            let first = (lo + draw.below(m1)).saturating_sub(draw.below(4 * m1));
+            let record = Record {
+                bo: near::bo(&mut draw) as i8,
+                ..reserved(
+                    first.min(LATEST_FIRST),
+                    1 + draw.below(60),
+                    1 + draw.below(3),
+                    1 + draw.below(4),
+                    draw.one_of(&[NEAR, FAR, FAR, FAR]),
+                )
+            };
+            // From slot 0 on some further series would begin below it.
+            match record.is_sound(m1, 0) {
+                true => record,
+                false => Record { bo: 0, ..record },
+            }
         });
         let records = records.collect();
         searches.compare(m1, records, wish)?;

@@ -27,7 +27,9 @@ pub struct Entry {
     /// In whole miles, as is the limit.
     pub distance: u32,
     pub limit: u32,
-    pub zeros: u32,
+    /// A reserve's; an octet of 128 is -128.
+    pub bo: i8,
+    pub zeros: [u8; 3],
 }
 
 /// What a log record asks of a table.
@@ -55,21 +57,18 @@ impl Entry {
             slot: number(8),
             distance: number(12),
             limit: number(16),
-            zeros: number(20),
+            bo: octets[20] as i8,
+            zeros: [octets[21], octets[22], octets[23]],
         })
     }
 
     pub fn octets(&self) -> Vec<u8> {
         let mut octets = vec![self.operation, self.rate, self.superframes, self.length];
-        for number in [
-            self.station,
-            self.slot,
-            self.distance,
-            self.limit,
-            self.zeros,
-        ] {
+        for number in [self.station, self.slot, self.distance, self.limit] {
             octets.extend((0..4).map(|place| (number >> (8 * place)) as u8));
         }
+        octets.push(self.bo as u8);
+        octets.extend(self.zeros);
         octets
     }
 
@@ -94,6 +93,7 @@ impl Entry {
                     superframes: self.superframes.into(),
                     bs: self.slot,
                     length: self.length.into(),
+                    bo: self.bo.into(),
                     distance,
                     limit,
                 }),
@@ -240,8 +240,10 @@ pub fn shown(table: &Table) -> String {
             superframes,
             length,
             far,
+            bo,
+            ..
         } = record;
-        text += &format!("{station} {first} {rate} {superframes} {length} {far}\n");
+        text += &format!("{station} {first} {rate} {superframes} {length} {far} {bo}\n");
     }
     text
 }

@@ -26,7 +26,7 @@ fn level(slots: &[Slot]) -> Option<u32> {
 
 /// All starts of the range that have a level, level 0 first, each ascending.
 fn starts(table: &Table, wish: &Wish) -> Vec<u32> {
-    let end = u64::from(wish.hi) + u64::from(wish.length);
+    let end = i64::from(wish.hi) + i64::from(wish.length);
     let slots = slots::judge_all(table, wish.lo.into()..end);
     let of_level = |wanted| {
         slots

@@ -13,21 +13,24 @@ pub enum Slot {
     Taken,
 }
 
-/// The blocks that a record reserves.
-pub fn blocks(record: &Record, m1: u32) -> impl Iterator<Item = Range<u64>> {
-    let [first, m1] = [record.first, m1].map(u64::from);
+/// The blocks that a record reserves: those of its superframes, then those of
+/// the further one, if there is one. They needn't stand in the order of slots.
+pub fn blocks(record: &Record, m1: u32) -> impl Iterator<Item = Range<i64>> {
+    let further = record.further(m1);
+    let [first, m1] = [record.first, m1].map(i64::from);
     let [rate, superframes, length] =
-        [record.rate, record.superframes, record.length].map(u64::from);
-    (0..superframes).flat_map(move |k| {
+        [record.rate, record.superframes, record.length].map(i64::from);
+    let superframes = (0..superframes).map(move |k| first + k * m1);
+    superframes.chain(further).flat_map(move |superframe| {
         (0..rate).map(move |j| {
-            let start = first + k * m1 + j * (m1 / rate);
+            let start = superframe + j * (m1 / rate);
             start..start + length
         })
     })
 }
 
 /// The state of any slot, asked record by record and block by block.
-pub fn judge(table: &Table, slot: u64) -> Slot {
+pub fn judge(table: &Table, slot: i64) -> Slot {
     let mut reserving = table
         .records
         .iter()
@@ -44,7 +47,7 @@ pub fn judge(table: &Table, slot: u64) -> Slot {
 
 /// The states of all slots of a range, marked block by block: the same as
 /// `judge` of each, and quicker for many.
-pub fn judge_all(table: &Table, range: Range<u64>) -> Vec<Slot> {
+pub fn judge_all(table: &Table, range: Range<i64>) -> Vec<Slot> {
     let mut slots = vec![Slot::Free; (range.end - range.start) as usize];
     for record in &table.records {
         for block in blocks(record, table.m1) {

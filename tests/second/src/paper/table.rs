@@ -6,7 +6,7 @@ use super::distance::{self, Distance};
 use super::{Answer, Refusal, LATEST, STATIONS};
 
 /// Octets in a record.
-pub const RECORD: usize = 12;
+pub const RECORD: usize = 16;
 
 /// The most records of a table.
 pub const MOST_RECORDS: usize = 2_048;
@@ -29,6 +29,9 @@ pub struct Record {
     pub superframes: u8,
     pub length: u8,
     pub far: u8,
+    /// The block offset; an octet of 128 is -128.
+    pub bo: i8,
+    pub zeros: [u8; 3],
 }
 
 impl Record {
@@ -45,6 +48,8 @@ impl Record {
             superframes: octets[9],
             length: octets[10],
             far: octets[11],
+            bo: octets[12] as i8,
+            zeros: [octets[13], octets[14], octets[15]],
         }
     }
 
@@ -54,14 +59,34 @@ impl Record {
             octets.extend((0..4).map(|place| (number >> (8 * place)) as u8));
         }
         octets.extend([self.rate, self.superframes, self.length, self.far]);
+        octets.push(self.bo as u8);
+        octets.extend(self.zeros);
         octets
     }
 
-    /// Of a record whose fields are in their ranges.
-    pub fn last_slot(&self, m1: u32) -> u64 {
-        let [first, m1] = [self.first, m1].map(u64::from);
-        let [rate, superframes, length] = [self.rate, self.superframes, self.length].map(u64::from);
+    /// Where the further superframe of blocks begins, which there is when bo
+    /// isn't 0: before the first slot perhaps, and before slot 0.
+    pub fn further(&self, m1: u32) -> Option<i64> {
+        let [first, m1] = [self.first, m1].map(i64::from);
+        let start = first + i64::from(self.superframes) * m1 + i64::from(self.bo);
+        (self.bo != 0).then_some(start)
+    }
+
+    /// The last slot of a series of so many superframes, from its first on; of
+    /// a record whose rate is in its range.
+    fn end(&self, first: i64, superframes: u8, m1: u32) -> i64 {
+        let [rate, superframes, length] = [self.rate, superframes, self.length].map(i64::from);
+        let m1 = i64::from(m1);
         first + (superframes - 1) * m1 + (rate - 1) * (m1 / rate) + length - 1
+    }
+
+    /// The later of the two series' ends.
+    pub fn last_slot(&self, m1: u32) -> i64 {
+        let end = self.end(self.first.into(), self.superframes, m1);
+        match self.further(m1) {
+            Some(start) => end.max(self.end(start, 1, m1)),
+            None => end,
+        }
     }
 
     fn in_ranges(&self) -> bool {
@@ -71,6 +96,16 @@ impl Record {
             && (1..=3).contains(&self.superframes)
             && (1..=32).contains(&self.length)
             && self.far <= 1
+            && self.bo != -128
+            && self.zeros == [0; 3]
+    }
+
+    /// Whether a sound table can hold it. Of the further series nothing is
+    /// asked against now, but that the later end isn't before it.
+    pub fn is_sound(&self, m1: u32, now: u32) -> bool {
+        self.in_ranges()
+            && self.further(m1).is_none_or(|start| start >= 0)
+            && self.last_slot(m1) >= i64::from(now)
     }
 
     /// Whether refusal 16 takes them for the same; far doesn't matter.
@@ -104,8 +139,8 @@ impl Table {
         }
         let (records, tail) = memory.split_at(count as usize * RECORD);
         let records: Vec<Record> = records.chunks(RECORD).map(Record::of_octets).collect();
-        let fits = |record: &Record| record.in_ranges() && record.last_slot(m1) >= u64::from(now);
-        if !records.iter().all(fits) || tail.iter().any(|&octet| octet != 0) {
+        let sound = |record: &Record| record.is_sound(m1, now);
+        if !records.iter().all(sound) || tail.iter().any(|&octet| octet != 0) {
             return Err(11);
         }
         Ok(Table {
@@ -154,10 +189,10 @@ impl Table {
         }
         self.now = slot;
         let m1 = self.m1;
-        Ok(self.keep(|record| record.last_slot(m1) >= u64::from(slot)))
+        Ok(self.keep(|record| record.last_slot(m1) >= i64::from(slot)))
     }
 
-    /// Refusals in the order 8, 14, 15, 9, 5, 18, 16, 17.
+    /// Refusals in the order 8, 14, 15, 9, 5, 6, 24, 18, 16, 17.
     pub fn reserve(&mut self, asked: &Reservation) -> Answer {
         if asked.station >= STATIONS {
             return Err(8);
@@ -174,8 +209,8 @@ impl Table {
         if asked.bs < 2 || asked.bs > 255 {
             return Err(5);
         }
-        if distance::limit_refused(asked.limit) {
-            return Err(18);
+        if asked.bo < -127 || asked.bo > 127 {
+            return Err(6);
         }
         let record = Record {
             station: asked.station,
@@ -184,7 +219,16 @@ impl Table {
             superframes: asked.superframes as u8,
             length: asked.length as u8,
             far: distance::far(asked.distance, asked.limit).into(),
+            bo: asked.bo as i8,
+            zeros: [0; 3],
         };
+        let further = record.further(self.m1);
+        if further.is_some_and(|start| start < i64::from(self.now)) {
+            return Err(24);
+        }
+        if distance::limit_refused(asked.limit) {
+            return Err(18);
+        }
         if self.records.iter().any(|held| held.same_as(&record)) {
             return Err(16);
         }
@@ -291,11 +335,12 @@ pub struct Reservation {
     pub superframes: u32,
     pub bs: u32,
     pub length: u32,
+    pub bo: i32,
     pub distance: Distance,
     pub limit: f64,
 }
 
-/// Refusals in the order 11, 8, 14, 15, 9, 5, 18, 16, 17.
+/// Refusals in the order 11, 8, 14, 15, 9, 5, 6, 24, 18, 16, 17.
 pub fn reserve(memory: &[u8], state: State, asked: &Reservation) -> After {
     change(memory, state, |table| table.reserve(asked))
 }

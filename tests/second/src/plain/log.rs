@@ -33,22 +33,25 @@ fn call_of(entry: &[u8]) -> Result<Call, u32> {
             b: 0.0,
         },
     };
-    if !zeros(20..24) {
+    if !zeros(21..24) {
         return Err(23);
     }
     match entry[0] {
-        1 if zeros(1..8) && zeros(12..20) => Ok(Call::Clock(slot)),
+        1 if zeros(1..8) && zeros(12..21) => Ok(Call::Clock(slot)),
         2 => Ok(Call::Reserve(Wish {
             station,
             rate: entry[1].into(),
             superframes: entry[2].into(),
             bs: slot,
             length: entry[3].into(),
+            bo: (entry[20] as i8).into(),
             distance,
             limit,
         })),
-        3 if zeros(1..4) && zeros(8..12) => Ok(Call::Distance(station, distance, limit)),
-        4 if zeros(1..4) && zeros(8..20) => Ok(Call::Wipe(station)),
+        3 if zeros(1..4) && zeros(8..12) && entry[20] == 0 => {
+            Ok(Call::Distance(station, distance, limit))
+        }
+        4 if zeros(1..4) && zeros(8..21) => Ok(Call::Wipe(station)),
         _ => Err(23),
     }
 }

@@ -6,10 +6,10 @@ mod log;
 mod table;
 
 use crate::gemthatch::{self, Block, Place, Reading, Tally, Writing};
-use table::{check_slot, is_sound, records, ADDRESSES, LAST_SLOT, RECORD};
+use table::{check_slot, is_sound, records, ADDRESSES, LAST_SLOT};
 
 pub use log::step;
-pub use table::{open, Answer, Distance, Record, State, Wish};
+pub use table::{open, Answer, Distance, Record, State, Wish, RECORD};
 
 fn code_is_invalid(code: u32) -> bool {
     matches!(code, 7 | 14 | 15)
@@ -207,35 +207,36 @@ pub fn wipe(memory: &mut [u8], state: State, station: u32) -> Answer {
 
 /// How a record's blocks are tried for a slot.
 impl Record {
-    /// The paper's sentence as it stands.
+    /// The paper's sentences as they stand.
     fn reserves_in_turn(&self, m1: u32, slot: u32) -> bool {
         let spacing = m1 / self.rate;
-        for k in 0..self.superframes {
-            for j in 0..self.rate {
-                let start = self.first + k * m1 + j * spacing;
-                if start <= slot && slot < start + self.length {
-                    return true;
-                }
-            }
-        }
-        false
+        let reserves = |superframe: u32| {
+            (0..self.rate).any(|j| {
+                let start = superframe + j * spacing;
+                start <= slot && slot < start + self.length
+            })
+        };
+        (0..self.superframes).any(|k| reserves(self.first + k * m1))
+            || self.bo != 0 && reserves(self.further(m1))
     }
 
-    /// By the last block of each superframe that starts at or before the slot.
+    /// By the last block of each series that starts at or before the slot: all
+    /// are as long, so no other reaches further.
     fn reserves_dividing(&self, m1: u32, slot: u32) -> bool {
         let spacing = m1 / self.rate;
-        for k in 0..self.superframes {
-            let base = self.first + k * m1;
-            if slot < base {
-                return false;
-            }
-            let off = slot - base;
+        let reserves = |superframe: u32| {
+            // Before the superframe it is larger than any block is ahead.
+            let off = slot.wrapping_sub(superframe);
             let j = (off / spacing).min(self.rate - 1);
-            if off - j * spacing < self.length {
-                return true;
+            off - j * spacing < self.length
+        };
+        let mut superframe = self.first;
+        for _ in 1..self.superframes {
+            if superframe + m1 <= slot {
+                superframe += m1;
             }
         }
-        false
+        reserves(superframe) | ((self.bo != 0) & reserves(self.further(m1)))
     }
 }
 
@@ -292,9 +293,9 @@ fn marks(memory: &[u8], state: State, lo: u32, end: u32) -> Vec<u8> {
     for record in records(memory, state) {
         let mark = if record.far == 0 { TAKEN } else { REUSABLE };
         let spacing = state.m1 / record.rate;
-        for k in 0..record.superframes {
+        let mut mark_superframe = |superframe: u32| {
             for j in 0..record.rate {
-                let start = record.first + k * state.m1 + j * spacing;
+                let start = superframe + j * spacing;
                 let (from, to) = (start.max(lo), (start + record.length).min(end));
                 if from < to {
                     for slot in &mut marks[(from - lo) as usize..(to - lo) as usize] {
@@ -302,6 +303,12 @@ fn marks(memory: &[u8], state: State, lo: u32, end: u32) -> Vec<u8> {
                     }
                 }
             }
+        };
+        for k in 0..record.superframes {
+            mark_superframe(record.first + k * state.m1);
+        }
+        if record.bo != 0 {
+            mark_superframe(record.further(state.m1));
         }
     }
     marks
@@ -391,6 +398,7 @@ pub fn record_at(memory: &[u8], state: State, i: u32) -> Place {
             superframes: record.superframes as u8,
             length: record.length as u8,
             far: record.far,
+            bo: record.bo as i8,
         },
     }
 }

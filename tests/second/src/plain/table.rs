@@ -1,7 +1,7 @@
 //! A table by hand: its records, whether it is sound, and the calls that change
 //! it once that is known. The peers that replay a log use these too.
 
-pub const RECORD: usize = 12;
+pub const RECORD: usize = 16;
 pub const LAST_SLOT: u32 = 1_000_000_000;
 pub const ADDRESSES: u32 = 1 << 27;
 const MOST_RECORDS: usize = 2048;
@@ -31,9 +31,12 @@ pub struct Record {
     pub superframes: u32,
     pub length: u32,
     pub far: u8,
+    pub bo: i32,
 }
 
 impl Record {
+    /// As a call it would go over the stack, field by field.
+    #[inline(always)]
     pub fn read(octets: &[u8]) -> Self {
         Record {
             station: u32::from_le_bytes(octets[0..4].try_into().unwrap()),
@@ -42,6 +45,7 @@ impl Record {
             superframes: octets[9].into(),
             length: octets[10].into(),
             far: octets[11],
+            bo: (octets[12] as i8).into(),
         }
     }
 
@@ -52,11 +56,24 @@ impl Record {
         octets[9] = self.superframes as u8;
         octets[10] = self.length as u8;
         octets[11] = self.far;
+        octets[12..16].copy_from_slice(&u32::from(self.bo as u8).to_le_bytes());
+    }
+
+    /// Where the further series starts, which there is unless bo is 0.
+    pub fn further(&self, m1: u32) -> u32 {
+        self.first
+            .wrapping_add_signed((self.superframes * m1) as i32 + self.bo)
     }
 
     pub fn last(&self, m1: u32) -> u32 {
-        self.first + (self.superframes - 1) * m1 + (self.rate - 1) * (m1 / self.rate) + self.length
-            - 1
+        let last = self.first
+            + (self.superframes - 1) * m1
+            + (self.rate - 1) * (m1 / self.rate)
+            + self.length
+            - 1;
+        // So much later does the further series end, if it does.
+        let later = (m1 as i32 + self.bo).max(0) as u32;
+        last + if self.bo == 0 { 0 } else { later }
     }
 
     fn is_sound(&self, m1: u32, now: u32) -> bool {
@@ -66,14 +83,24 @@ impl Record {
             && (1..=3).contains(&self.superframes)
             && (1..=32).contains(&self.length)
             && self.far <= 1
+            && self.further(m1) as i32 >= 0
             && self.last(m1) >= now
     }
 }
 
+fn octets_of(memory: &[u8], state: State) -> impl Iterator<Item = &[u8]> {
+    memory[..state.count as usize * RECORD].chunks_exact(RECORD)
+}
+
 pub fn records(memory: &[u8], state: State) -> impl Iterator<Item = Record> + '_ {
-    memory[..state.count as usize * RECORD]
-        .chunks_exact(RECORD)
-        .map(Record::read)
+    octets_of(memory, state).map(Record::read)
+}
+
+/// Whether octets are those of a sound record.
+fn is_sound_record(octets: &[u8], m1: u32, now: u32) -> bool {
+    // A bo, and the three zeros behind it.
+    let tail = u32::from_le_bytes(octets[12..16].try_into().unwrap());
+    tail <= 255 && tail != 128 && Record::read(octets).is_sound(m1, now)
 }
 
 fn size_is_right(memory: &[u8]) -> bool {
@@ -87,7 +114,7 @@ pub fn is_sound(memory: &[u8], state: State) -> bool {
         && is_superframe(state.m1)
         && state.now <= LAST_SLOT
         && state.count as usize <= memory.len() / RECORD
-        && records(memory, state).all(|record| record.is_sound(state.m1, state.now))
+        && octets_of(memory, state).all(|octets| is_sound_record(octets, state.m1, state.now))
         // Without an early exit, so that whole vectors are tested.
         && memory[state.count as usize * RECORD..]
             .iter()
@@ -173,6 +200,7 @@ pub struct Wish {
     pub superframes: u32,
     pub bs: u32,
     pub length: u32,
+    pub bo: i32,
     pub distance: Distance,
     pub limit: f64,
 }
@@ -194,6 +222,13 @@ pub fn reserve(memory: &mut [u8], state: State, wish: &Wish) -> Answer {
     if !(2..=MOST_BS).contains(&wish.bs) {
         return Err(5);
     }
+    if !(-127..=127).contains(&wish.bo) {
+        return Err(6);
+    }
+    // Where the further series would start, from now on; without a bo it is never before.
+    if (wish.bs + wish.superframes * state.m1) as i32 + wish.bo < 0 {
+        return Err(24);
+    }
     if !(0.0..=FARTHEST).contains(&wish.limit) {
         return Err(18);
     }
@@ -204,6 +239,7 @@ pub fn reserve(memory: &mut [u8], state: State, wish: &Wish) -> Answer {
         superframes: wish.superframes,
         length: wish.length,
         far: wish.distance.is_far(wish.limit).into(),
+        bo: wish.bo,
     };
     let held = |record: Record| {
         record.station == new.station
@@ -211,6 +247,7 @@ pub fn reserve(memory: &mut [u8], state: State, wish: &Wish) -> Answer {
             && record.rate == new.rate
             && record.superframes == new.superframes
             && record.length == new.length
+            && record.bo == new.bo
     };
     if records(memory, state).any(held) {
         return Err(16);

@@ -2,6 +2,9 @@
 use native.Mathlib.Omega.{arith}
 use mathlib.Core.Path.{_≡_, sym, _∙_}
 use mathlib.Core.Bool.{true}
+use mir.Syntax.{w32}
+use mir.Val.{SFits}
+use mir.Facts.{toZ-ofZ}
 use denote.Ref.{now}
 use borrow.Author.Needs.{needs}
 use Rattle.octets.specs.Refusals.{firstOf}
@@ -26,12 +29,19 @@ is-sound : (c : tie.Then1) → sound (given (c .before)) ≡ true
 is-sound c = sym (c .before .is-sound .ensures) ∙ c .if1 .taken
 
 module _ (c : tie.Then2) where
+  abbrev asked : tie.After-is-sound
+  asked = c .before .before .before
+
   -- no number of the request is refused
-  is-passed : firstOf (requestTests (request (c .before .before .before))) ≡ 0
+  is-passed : firstOf (requestTests (given asked .m1) (given asked .now) (request asked)) ≡ 0
   is-passed = sym (c .before .judge-request .ensures) ∙ c .if2 .taken
 
-  in-range : InRange (request (c .before .before .before))
-  in-range = request-passed (request (c .before .before .before)) is-passed
+  in-range : InRange (request asked)
+  in-range = request-passed (given asked .m1) (given asked .now) (request asked) is-passed
+
+-- bo fits its type, so that its bits stand for it
+bo-fits : (c : tie.After-struct-told) → SFits w32 (request (c .before .before .before .before .before .before .before .before .before .before) .bo)
+bo-fits c = record { sfits = c .struct-told .given .1 .1 .1 .1 .1 .0 .1 }
 
 -- ---- the needs
 
@@ -59,20 +69,24 @@ cast-t14 c = omega (arith, in-range (c .before .before .before .before .before) 
 cast-t15 : tie.Need-cast-t15
 cast-t15 c = omega (arith, in-range (c .before .before .before .before .before .before) .length-most)
 
+twos-requires : tie.Need-twos-requires
+twos-requires c κs = search needs
+
 add-requires : tie.Need-add-requires
-add-requires c κs = is-sound (c .before .before .before .before .before .before .before .before .before)
+add-requires c κs = is-sound (c .before .before .before .before .before .before .before .before .before .before .before)
 
 same-length : tie.Need-same-length
 same-length c = c .before .before .add .kept .1 .0
 
 returns : tie.Need-returns
 returns c =
-    let at-far-bit = c .before .before .before .before .before .before .before .before .before in
+    let at-twos = c .before .before .before .before in
+    let at-far-bit = at-twos .before .before .before .before .before .before .before in
     let at-if2 = at-far-bit .before in
     let t = at-if2 .before .before in
     let far = at-far-bit .far-bit in
     let add = c .before .before .add in
-    request-added (given (t .before)) (request (t .before)) (is-sound t) (is-passed at-if2) (add .ensures .0) (add .ensures .1) (rw (far .ensures))
+    request-added (given (t .before)) (request (t .before)) (is-sound t) (is-passed at-if2) (add .ensures .0) (add .ensures .1) (rw (far .ensures, at-twos .twos .ensures, toZ-ofZ (bo-fits (at-twos .before))))
 
 refuse-requires : tie.Need-refuse-requires
 refuse-requires c κs = search needs
@@ -110,6 +124,7 @@ reserve-spec =
     cast-t13
     cast-t14
     cast-t15
+    twos-requires
     add-requires
     same-length
     returns

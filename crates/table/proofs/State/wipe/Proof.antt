@@ -1,19 +1,15 @@
 -- `table::State::wipe` meets its contract: what it is refused for, and else what a sweep leaves. Assumes nothing.
-use Prim.Native.Nat.{zero-le}
 use native.Mathlib.Omega.{arith}
-use mathlib.Core.Path.{_≡_, refl, ap, sym, _∙_, fun-ext}
-use mathlib.Core.Bool.{Bool, true, not, _&&_, and-true, Bool·not-not}
+use mathlib.Core.Path.{_≡_, refl, sym, _∙_}
+use mathlib.Core.Bool.{Bool, true, not, Bool·not-not}
 use denote.Ref.{now}
 use borrow.Author.Tests.{le-leb, lt-leb}
 use borrow.Author.Needs.{needs}
-use Rattle.octets.specs.Lists.{keep}
-use Rattle.record.specs.Record.{capacity, packed}
 use Rattle.record.specs.declared.Rec.{Rec}
-use Rattle.series.specs.Series.{lastSlot}
-use Rattle.sound.specs.Sound.{Channel, records, sound, lasts}
+use Rattle.sound.specs.Sound.{Channel, sound}
 use Rattle.table.specs.Table.{Call, wipe, ownedBy}
 use Rattle.table.specs.Memory.{channel, tableOf}
-use Rattle.table.specs.Steps.{stays, swept}
+use Rattle.table.specs.Steps.{stays}
 use Rattle.table.proofs.Calls.{unsound-gives, tested-gives, sweep-gives}
 use Rattle.table.proofs.State.wipe.Statement.{statement}
 use Rattle.table.proofs.State.wipe.Tie as tie
@@ -53,21 +49,16 @@ same-length-2 : tie.Need-same-length-2
 same-length-2 c = c .before .before .sweep .kept .1 .0
 
 returns-2 : tie.Need-returns-2
-unfolding tableOf stays lasts
+unfolding tableOf stays
 returns-2 c =
     let at-if2 = c .before .before .before .before in
     let t = at-if2 .before in
     let m = given (t .before) in
     let station = t .before .before .before .before .args .station in
     let other : Rec → Bool = λ r. not (ownedBy station r) in
-    let at-zero : Rec → Bool = λ r. other r && lasts (m .m1) 0 r in
-    let e : at-zero ≡ other = fun-ext (λ r. rw (le-leb 0 (lastSlot (m .m1) r) zero-le) (and-true (other r))) in
     let sweep = c .before .before .sweep in
     let g = sweep-gives m (call (t .before)) (is-sound t) (rw (lt-leb _ _ (at-if2 .if2 .left))) refl (m .now) other (ownedBy station) (λ (r : Rec). sym (Bool·not-not (ownedBy station r))) refl refl in
-    record {
-      result = sweep .ensures .0 ∙ ap (swept m (m .now)) e ∙ g .result;
-      octets = sweep .ensures .1 ∙ ap (λ (p : Rec → Bool). packed (capacity (m .memory)) (keep p (records m))) e ∙ g .octets;
-    }
+    record { result = sweep .ensures .0 ∙ g .result; octets = sweep .ensures .1 ∙ g .octets }
 
 refuse-requires-2 : tie.Need-refuse-requires-2
 refuse-requires-2 c κs = search needs

@@ -1,0 +1,36 @@
+-- `slots::reaches` meets its contract: how far the end is ahead of lo tells, and where it is behind that is more than both are wide. Assumes nothing.
+use Prim.Native.Nat.{_+_, _-_}
+use mathlib.Core.Path.{_≡_}
+use mathlib.Core.Bool.{_&&_}
+use native.Mathlib.Omega.{arith}
+use lib.Dec.{leb, ltb}
+use borrow.Author.Needs.{needs}
+use borrow.Author.Tests.{leb-true, leb-false, le-ltb}
+use Rattle.octets.proofs.Refusals.{by-test}
+use Rattle.series.proofs.Tests.{ltb-same}
+use Rattle.slots.proofs.reaches.Statement.{statement}
+use Rattle.slots.proofs.reaches.Tie as tie
+
+add-ahead-of : tie.Need-add-ahead-of
+add-ahead-of c = search needs
+
+ahead-of-requires : tie.Need-ahead-of-requires
+ahead-of-requires c κs = search needs
+
+sub-result : tie.Need-sub-result
+sub-result c = search needs
+
+add-result : tie.Need-add-result
+add-result c = search needs
+
+returns : tie.Need-returns
+returns c =
+    let s = c .before in
+    let a = s .args in
+    let past = a .start + a .width in
+    by-test (leb (a .lo) past)
+    (λ b. rw b (ltb-same (c .ahead-of .result) (a .end - a .lo + a .width) (a .start) (a .end) (λ h. omega (arith, s .pre, leb-true (a .lo) past b, c .ahead-of .ensures .0 (leb-true (a .lo) past b))) (λ h. omega (arith, s .pre, leb-true (a .lo) past b, c .ahead-of .ensures .0 (leb-true (a .lo) past b)))))
+    (λ b. rw b (le-ltb (c .ahead-of .result) (a .end - a .lo + a .width) (omega (arith, s .pre, s .fits, leb-false (a .lo) past b, c .ahead-of .ensures .1 (leb-false (a .lo) past b)))))
+
+pub reaches-spec : {M : Type 1} → statement M
+reaches-spec = tie.close (tie.spec add-ahead-of ahead-of-requires sub-result add-result returns)
