@@ -1,11 +1,11 @@
 -- Of starts that are a step apart, the last that is not past a number. Assumes nothing.
-use Prim.Native.Nat.{ℕ, zero, suc, _+_, _-_, _*_, _/_, _≤_, _<_, min, zero-le}
-use native.Mathlib.Nat.{mul-le-mul-right, add-mul, le-trans, mul-zero, div-mul-le-self, div-eq-sub-div, div-eq-of-lt, min-zero, le-div-iff-mul-le, eq-zero-or-pos}
+use Prim.Native.Nat.{ℕ, _+_, _-_, _*_, _/_, _≤_, _<_, min, zero-le}
+use native.Mathlib.Nat.{mul-le-mul-right, add-mul, le-trans, mul-zero, div-mul-le-self, div-eq-sub-div, div-eq-of-lt, min-zero, le-div-iff-mul-le, div-lt-iff-lt-mul, eq-zero-or-pos}
 use native.Mathlib.Omega.{arith}
 use mathlib.Core.Path.{_≡_, refl, sym, _∙_}
 use mathlib.Core.Bool.{Bool, true, false, cond}
 use mathlib.Core.Logic.{⊎-elim}
-use lib.Dec.{leb, ltb}
+use lib.Dec.{leb}
 use borrow.Author.Tests.{leb-true, leb-false}
 use Rattle.series.specs.Candidate.{lastStarted}
 use Rattle.series.specs.Steps.{lessStep}
@@ -38,7 +38,7 @@ module _ (most step x : ℕ) where
 
 -- with one step more left, as far as x less a step is
 lastStarted-step : (most step x : ℕ)
-    → x - lastStarted (most + 1) step x * step ≡ lessStep true step x - lastStarted most step (lessStep true step x) * step
+    → x - lastStarted (most + 1) step x * step ≡ lessStep step x - lastStarted most step (lessStep step x) * step
 unfolding lastStarted lessStep
 lastStarted-step most step x = go (leb step x) refl
   where
@@ -61,14 +61,32 @@ pub lastStarted-none : (step x : ℕ) → x ≡ x - lastStarted 0 step x * step
 unfolding lastStarted
 lastStarted-none step x = let z : min 0 (x / step) ≡ 0 = omega arith in rw z (omega arith)
 
--- with two left at most, as far as x less one and less another
-pub lastStarted-two : (most step x : ℕ) → most ≤ 2
-    → lessStep (ltb 1 most) step (lessStep (ltb 0 most) step x) ≡ x - lastStarted most step x * step
-unfolding lessStep
-lastStarted-two zero step x h = lastStarted-none step x
-lastStarted-two (suc zero) step x h = lastStarted-none step (lessStep true step x) ∙ sym (lastStarted-step 0 step x)
-lastStarted-two (suc (suc zero)) step x h =
-    lastStarted-none step (lessStep true step (lessStep true step x))
-    ∙ sym (lastStarted-step 0 step (lessStep true step x))
+-- with two left, as far as x less one and less another
+lastStarted-two : (step x : ℕ) → lessStep step (lessStep step x) ≡ x - lastStarted 2 step x * step
+lastStarted-two step x =
+    lastStarted-none step (lessStep step (lessStep step x))
+    ∙ sym (lastStarted-step 0 step (lessStep step x))
     ∙ sym (lastStarted-step 1 step x)
-lastStarted-two (suc (suc (suc most))) step x h = absurd (omega arith)
+
+-- ---- by whether x is before the end of so many steps
+
+-- where it is, no bound is met
+pub lastStarted-before : (number step x : ℕ) → 0 < step → x < number * step → lastStarted (number - 1) step x ≡ x / step
+unfolding lastStarted
+lastStarted-before number step x pos h =
+    let d : x / step < number = div-lt-iff-lt-mul pos .1 h in
+    omega arith
+
+-- where it isn't, it is the last of them
+pub lastStarted-behind : (number step x : ℕ) → 0 < step → number * step ≤ x → lastStarted (number - 1) step x ≡ number - 1
+unfolding lastStarted
+lastStarted-behind number step x pos h =
+    let d : number ≤ x / step = le-div-iff-mul-le pos .1 h in
+    omega arith
+
+-- so two steps are enough for a number before the end of three
+pub lastStarted-few : (number step x : ℕ) → number ≤ 3 → 0 < step → x < number * step
+    → lessStep step (lessStep step x) ≡ x - lastStarted (number - 1) step x * step
+lastStarted-few number step x few pos h =
+    let m : number * step ≤ 3 * step = mul-le-mul-right step few in
+    lastStarted-two step x ∙ rw (lastStarted-before 3 step x pos (omega arith), lastStarted-before number step x pos h)

@@ -4,4 +4,5 @@ pub mod SomeBelow
 pub mod LastStarted
 pub mod Blocks
 pub mod Series
+pub mod Apart
 pub mod Signed

@@ -1,9 +1,9 @@
 -- Which slots a series of a record's blocks has, and which a record reserves. Assumes nothing.
 use Prim.Native.Nat.{ℕ, _+_, _-_, _*_, _/_, _≤_, _<_, max}
-use native.Mathlib.Nat.{mul-le-mul-right, mul-zero, add-mul, lt-div-mul-add, div-mul-le-self, eq-zero-or-pos}
+use native.Mathlib.Nat.{mul-le-mul-right, mul-zero, add-mul, lt-div-mul-add, div-mul-le-self, mul-div-le, eq-zero-or-pos}
 use native.Mathlib.Omega.{arith}
 use mathlib.Core.Path.{_≡_, sym, ap, _∙_}
-use mathlib.Core.Bool.{Bool, true, false, cond, _&&_, _||_, or-true, or-false, and-eq-true-iff, false≢true}
+use mathlib.Core.Bool.{Bool, true, false, cond, _&&_, _||_, or-true, or-false, and-false, and-eq-true-iff, false≢true}
 use mathlib.Core.Logic.{_⊎_, inl, inr, ⊎-elim}
 use lib.Dec.{leb, ltb, eqb}
 use borrow.Author.Tests.{leb-true, leb-false, ltb-true, le-leb, lt-ltb, le-ltb, eqb-false, eq-eqb, ne-eqb, not-true}
@@ -73,6 +73,16 @@ inSeries-within m1 r from superframes slot =
     let t = start-ascends m1 r from k j (superframes - 1) (r .rate - 1) (omega arith) (omega arith) in
     (omega arith, omega arith))
 
+-- where its blocks lie apart, each of its slots lies before its superframes are over
+pub inSeries-apart : (m1 : ℕ) (r : Rec) (from superframes slot : ℕ) → r .length ≤ m1 / r .rate → inSeries m1 r from superframes slot ≡ true
+    → slot < from + superframes * m1
+inSeries-apart m1 r from superframes slot apart =
+    inSeries-elim m1 r from superframes slot (λ k j h.
+    let q = m1 / r .rate in
+    let a : (k + 1) * m1 ≤ superframes * m1 = mul-le-mul-right m1 (omega arith) in
+    let b : (j + 1) * q ≤ r .rate * q = mul-le-mul-right q (omega arith) in
+    omega (arith, add-mul k 1 m1, add-mul j 1 q, mul-div-le m1 (r .rate)))
+
 -- a block of a superframe up to it is over, one of a later superframe has not started
 pub none-in-the-gap : NoneInTheGap
 none-in-the-gap m1 r from superframes k slot over ahead =
@@ -131,18 +141,17 @@ module _ (m1 : ℕ) (r : Rec) (from superframes slot : ℕ) where
       (ltb-true 0 superframes (p .0 .0), ltb-true 0 (r .rate) (p .0 .1), leb-true from slot (p .1))
 
   -- then the slots since the start of that block tell
-  pub begun-tells : begun ≡ true
+  pub begun-tells : 0 < superframes → 0 < r .rate → from ≤ slot
       → let since = slot - from in
       ltb (since - superframeBy m1 superframes since * m1 - blockBy m1 r superframes since * (m1 / r .rate)) (r .length)
       ≡ inSeries m1 r from superframes slot
-  begun-tells h =
-      let b = begun-each h in
+  begun-tells f g late =
       let k = superframeBy m1 superframes (slot - from) in
       let j = blockBy m1 r superframes (slot - from) in
       let s = lastStarted-started (superframes - 1) m1 (slot - from) in
       let t = lastStarted-started (r .rate - 1) (m1 / r .rate) (slot - from - k * m1) in
       let e : slot - start m1 r from k j ≡ slot - from - k * m1 - j * (m1 / r .rate) = omega arith in
-      sym (one-block-tells m1 r from superframes slot (b .0) (b .1) (b .2) ∙ rw (← e) (inBlock-since (start m1 r from k j) (r .length) slot (omega arith)))
+      sym (one-block-tells m1 r from superframes slot f g late ∙ rw (← e) (inBlock-since (start m1 r from k j) (r .length) slot (omega arith)))
 
   -- before that it has none
   pub not-begun : begun ≡ false → inSeries m1 r from superframes slot ≡ false
@@ -153,6 +162,16 @@ module _ (m1 : ℕ) (r : Rec) (from superframes slot : ℕ) where
 -- ---- a record
 
 module _ (m1 : ℕ) (r : Rec) where
+  -- where the rate is 0, it reserves none
+  pub reserves-none : r .rate ≡ 0 → (slot : ℕ) → reserves m1 r slot ≡ false
+  unfolding reserves inFurther
+  reserves-none z slot =
+      rw (
+        none-without-blocks m1 r (r .first) (r .superframes) slot (inr (inl z)),
+        none-without-blocks m1 r (furtherFrom m1 r) 1 (slot + 128) (inr (inl z)),
+      )
+      (and-false (hasFurther r))
+
   -- where bo is 0, it reserves one series, and its last slot is that one's end
   pub reserves-one : r .bo ≡ 0 → (slot : ℕ) → reserves m1 r slot ≡ inSeries m1 r (r .first) (r .superframes) slot
   unfolding reserves inFurther

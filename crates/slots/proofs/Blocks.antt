@@ -1,23 +1,21 @@
--- Laws of a series of blocks, and of a record's superframes. Assumes nothing.
+-- Laws of a series of blocks. Assumes nothing.
 use Prim.Native.Nat.{ℕ, zero, suc, _+_, _-_, _*_, _/_, _%_, _<_, _≤_, min}
 use native.Mathlib.Nat.{add-mul, mul-le-mul-right, add-suc, add-zero, div-add-mod', mod-lt, zero-div, eq-zero-or-pos, lt-of-mul-lt-mul-right}
 use native.Mathlib.Numerals.{add-one}
 use native.Mathlib.Omega.{arith}
-use mathlib.Core.Logic.{inl, inr, ⊎-elim}
+use mathlib.Core.Logic.{⊎-elim}
 use mathlib.Core.Path.{_≡_, refl, sym, ap, _∙_}
-use mathlib.Core.Bool.{Bool, true, false, not, _&&_, _||_, or-assoc, or-false, and-false, and-eq-true-iff, false≢true}
-use lib.Dec.{leb, ltb, eqb}
-use borrow.Author.Tests.{ltb-true, ltb-false, lt-ltb, le-ltb, le-leb, eq-eqb, ne-eqb}
+use mathlib.Core.Bool.{Bool, true, false, _&&_, _||_, or-assoc, or-false, and-eq-true-iff}
+use lib.Dec.{ltb}
+use borrow.Author.Tests.{ltb-true, ltb-false, lt-ltb}
 use Rattle.octets.proofs.Refusals.{by-test}
-use Rattle.record.specs.declared.Rec.{Rec}
-use Rattle.series.specs.Series.{someBelow, start, inBlock, inSeries, hasFurther, furtherFrom, inFurther, reserves}
+use Rattle.series.specs.Series.{someBelow, inBlock}
 use Rattle.series.proofs.Tests.{fails, agree}
 use Rattle.series.proofs.SomeBelow.{someBelow-at, someBelow-elim}
 use Rattle.series.proofs.Blocks.{inBlock-both}
-use Rattle.series.proofs.Series.{none-without-blocks, reserves-one, reserves-two}
 use Rattle.slots.specs.declared.Series.{Series}
-use Rattle.slots.specs.Steps.{firstHold, holds, firstBefore, holdsBefore, after, superframeAt, superframesOf, superframeOf, heldLifted, Small, Skips, Left}
-use Rattle.slots.proofs.Tests.{and-within, block-shift, block-join}
+use Rattle.slots.specs.Steps.{firstHold, holds, firstBefore, holdsBefore, after, Small, Skips, Left}
+use Rattle.slots.proofs.Tests.{and-within, block-join}
 
 -- ---- someBelow
 
@@ -27,12 +25,12 @@ unfolding someBelow
 someBelow-none p = refl
 
 -- one number more
-someBelow-next : (n : ℕ) (p : ℕ → Bool) → someBelow (n + 1) p ≡ (someBelow n p || p n)
+pub someBelow-next : (n : ℕ) (p : ℕ → Bool) → someBelow (n + 1) p ≡ (someBelow n p || p n)
 unfolding someBelow
 someBelow-next n p = rw add-one
 
 -- tests that agree
-someBelow-agree : (n : ℕ) (p q : ℕ → Bool) → ((j : ℕ) → j < n → p j ≡ q j) → someBelow n p ≡ someBelow n q
+pub someBelow-agree : (n : ℕ) (p q : ℕ → Bool) → ((j : ℕ) → j < n → p j ≡ q j) → someBelow n p ≡ someBelow n q
 unfolding someBelow
 someBelow-agree zero p q h = refl
 someBelow-agree (suc n) p q h = rw (someBelow-agree n p q (λ j l. h j (omega arith)), h n (omega arith))
@@ -75,7 +73,7 @@ module _ (s : Series) (slot : ℕ) where
       omega arith)
 
 -- a series that holds a slot has started, and its last block is not over
-holds-within : (s : Series) (slot : ℕ) → holds s slot ≡ true → (s .start ≤ slot) × (slot < s .start + ((s .blocks - 1) * s .spacing + s .length))
+pub holds-within : (s : Series) (slot : ℕ) → holds s slot ≡ true → (s .start ≤ slot) × (slot < s .start + ((s .blocks - 1) * s .spacing + s .length))
 holds-within s slot =
     someBelow-elim (s .blocks) (λ j. inBlock (s .start + j * s .spacing) (s .length) slot) (λ j l e.
     let b = inBlock-both (s .start + j * s .spacing) (s .length) slot e in
@@ -224,85 +222,3 @@ pub holds-all : (s : Series) (slot : ℕ) → 0 < s .blocks → s .spacing ≤ s
 holds-all s slot h l =
     let e : s .blocks - 1 + 1 ≡ s .blocks = omega arith in
     sym (ap (λ (m : ℕ). firstHold s m slot) (sym e) ∙ holds-run (s .start) (s .spacing) (s .length) slot (s .blocks - 1) l)
-
--- ---- a record's superframes
-
-module _ (m1 : ℕ) (r : Rec) where
-  -- one of the first n holds a slot
-  abbrev pub firstLifted : ℕ → ℕ → Bool
-  firstLifted n slot = someBelow n (λ k. holds (superframeOf m1 r k) slot)
-
-  -- one more, by where it starts and its spacing
-  pub lifted-next : (n slot start spacing : ℕ) → start ≡ superframeAt m1 r n → spacing ≡ m1 / r .rate
-      → (firstLifted n slot || holds (record { start = start; spacing = spacing; blocks = r .rate; length = r .length }) slot) ≡ firstLifted (n + 1) slot
-  lifted-next n slot start spacing e d = rw (e, d) (sym (someBelow-next n (λ k. holds (superframeOf m1 r k) slot)))
-
-  module _ (slot : ℕ) where
-    -- its own hold a slot, with 128 added, where its own series has it
-    own-lifted : inSeries m1 r (r .first) (r .superframes) slot ≡ firstLifted (r .superframes) (slot + 128)
-    unfolding inSeries
-    own-lifted =
-        someBelow-agree (r .superframes) (λ k. someBelow (r .rate) (λ j. inBlock (start m1 r (r .first) k j) (r .length) slot)) (λ k. holds (superframeOf m1 r k) (slot + 128)) (λ k l.
-        rw (lt-ltb k (r .superframes) l)
-        (someBelow-agree (r .rate) (λ j. inBlock (start m1 r (r .first) k j) (r .length) slot) (λ j. inBlock (r .first + k * m1 + 128 + j * (m1 / r .rate)) (r .length) (slot + 128)) (λ j _.
-        let d : 128 + start m1 r (r .first) k j ≡ r .first + k * m1 + 128 + j * (m1 / r .rate) = omega arith in
-        let e : 128 + slot ≡ slot + 128 = omega arith in
-        rw (← d, ← e) (block-shift 128 (start m1 r (r .first) k j) (r .length) slot))))
-
-    -- the further one does where the further series has it
-    further-lifted : inSeries m1 r (furtherFrom m1 r) 1 (slot + 128) ≡ holds (superframeOf m1 r (r .superframes)) (slot + 128)
-    unfolding inSeries someBelow
-    further-lifted =
-        let e : furtherFrom m1 r + 0 * m1 ≡ furtherFrom m1 r = omega arith in
-        rw (le-ltb (r .superframes) (r .superframes) (omega arith), e)
-
-    -- one of them all does where the record reserves it
-    pub reserves-lifted : reserves m1 r slot ≡ heldLifted m1 r (slot + 128)
-    reserves-lifted =
-        ⊎-elim
-        (λ (z : r .bo ≡ 0). reserves-one m1 r z slot ∙ rw (eq-eqb (r .bo) 0 z) own-lifted)
-        (λ (n : 0 < r .bo).
-        let some : r .bo ≡ 0 → ⊥ = λ z. omega arith in
-        reserves-two m1 r some slot
-        ∙ rw (ne-eqb (r .bo) 0 some, own-lifted, further-lifted) (sym (someBelow-next (r .superframes) (λ k. holds (superframeOf m1 r k) (slot + 128)))))
-        (eq-zero-or-pos (r .bo))
-
-    -- without a block in a superframe none is reserved
-    pub reserves-none : r .rate ≡ 0 → reserves m1 r slot ≡ false
-    unfolding reserves inFurther
-    reserves-none z =
-        rw (none-without-blocks m1 r (r .first) (r .superframes) slot (inr (inl z)), none-without-blocks m1 r (furtherFrom m1 r) 1 (slot + 128) (inr (inl z)))
-        (and-false (hasFurther r))
-
--- ---- a record whose superframes don't reach a window
-
-module _ (m1 : ℕ) (r : Rec) (lo end : ℕ) where
-  -- the slots from the start of a superframe's first block to the end of its last
-  abbrev pub runOf : ℕ
-  runOf = (r .rate - 1) * (m1 / r .rate) + r .length
-
-  -- so many slots from a start on reach it
-  abbrev pub within : ℕ → ℕ → Bool
-  within from width = leb lo (from + width) && ltb from end
-
-  -- then none of its slots is held
-  pub apart-none : within (r .first + 128) ((r .superframes - 1) * m1 + runOf) ≡ false → (within (furtherFrom m1 r) runOf && not (eqb (r .bo) 0)) ≡ false
-      → (slot : ℕ) → lo ≤ slot → slot < end → heldLifted m1 r slot ≡ false
-  apart-none own further slot l h =
-      fails (heldLifted m1 r slot)
-      (someBelow-elim (superframesOf r) (λ k. holds (superframeOf m1 r k) slot) (λ k lk e.
-      let b = holds-within (superframeOf m1 r k) slot e in
-      by-test (ltb k (r .superframes))
-      (λ t.
-      let d : k * m1 ≤ (r .superframes - 1) * m1 = mul-le-mul-right m1 (omega (arith, ltb-true k (r .superframes) t)) in
-      let f = rw t at b in
-      false≢true (sym own ∙ rw (le-leb lo (r .first + 128 + ((r .superframes - 1) * m1 + runOf)) (omega (arith, f)), lt-ltb (r .first + 128) end (omega (arith, f)))))
-      (λ t.
-      let f = rw t at b in
-      let more = further-one k lk (ltb-false k (r .superframes) t) in
-      false≢true (sym further ∙ rw (le-leb lo (furtherFrom m1 r + runOf) (omega (arith, f)), lt-ltb (furtherFrom m1 r) end (omega (arith, f)), more)))))
-    where
-      -- a superframe past its own is the further one
-      further-one : (k : ℕ) → k < superframesOf r → r .superframes ≤ k → eqb (r .bo) 0 ≡ false
-      further-one k lk h =
-          by-test (eqb (r .bo) 0) (λ t. absurd (omega (arith, (rw t at lk)))) (λ t. t)

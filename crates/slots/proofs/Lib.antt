@@ -3,6 +3,7 @@ pub mod Looks
 pub mod Tests
 pub mod Marks
 pub mod Blocks
+pub mod Lifted
 pub mod Numbers
 pub mod SoFar
 pub mod Window

@@ -10,6 +10,7 @@ use Rattle.record.specs.declared.Rec.{Rec}
 use Rattle.record.specs.Record.{allRecords}
 use Rattle.series.specs.Series.{someBelow, inBlock, hasFurther, furtherFrom, reserves}
 use Rattle.slots.specs.declared.Series.{Series}
+use Rattle.slots.specs.declared.Superframes.{Superframes}
 use Rattle.slots.specs.Slots.{recordFar}
 use Rattle.slots.specs.Window.{slotStateNumber}
 
@@ -66,21 +67,31 @@ pub record Left (lo : ℕ) (s r : Series) : Type 0 where
 
 -- ---- a record's superframes, with 128 added to every slot
 
--- where superframe k of its blocks starts: the further one comes behind the others
-abbrev pub superframeAt : ℕ → Rec → ℕ → ℕ
-superframeAt m1 r k = cond (ltb k (r .superframes)) (r .first + k * m1 + 128) (furtherFrom m1 r)
-
--- how many it has
-abbrev pub superframesOf : Rec → ℕ
-superframesOf r = cond (hasFurther r) (r .superframes + 1) (r .superframes)
-
--- the blocks of superframe k
+-- the blocks of one that starts at a slot
 abbrev pub superframeOf : ℕ → Rec → ℕ → Series
-superframeOf m1 r k = record { start = superframeAt m1 r k; spacing = m1 / r .rate; blocks = r .rate; length = r .length }
+superframeOf spacing r start = record { start = start; spacing = spacing; blocks = r .rate; length = r .length }
 
--- one of them all holds a slot
+-- one of its own holds a slot, or the further one does
 abbrev pub heldLifted : ℕ → Rec → ℕ → Bool
-heldLifted m1 r slot = someBelow (superframesOf r) (λ k. holds (superframeOf m1 r k) slot)
+heldLifted m1 r slot =
+    someBelow (r .superframes) (λ k. holds (superframeOf (m1 / r .rate) r (r .first + 128 + k * m1)) slot)
+    || (hasFurther r && holds (superframeOf (m1 / r .rate) r (furtherFrom m1 r)) slot)
+
+-- where number k of those that are left starts
+abbrev pub leftAt : Superframes → ℕ → ℕ
+leftAt l k = cond (ltb k (l .own)) (l .from + k * l .m1) (l .next)
+
+-- one of those that are left, up to number n, holds a slot
+abbrev pub heldLeft : ℕ → Rec → Superframes → ℕ → ℕ → Bool
+heldLeft spacing r l n slot = someBelow n (λ k. leb (l .first) k && holds (superframeOf spacing r (leftAt l k)) slot)
+
+-- the first is not behind them all; they are so few, and their numbers so small, that sums of them fit
+pub record Few (l : Superframes) : Type 0 where
+  pub some : l .first ≤ l .all
+  pub few : l .all ≤ 256
+  pub early : l .from ≤ 4294967423
+  pub short : l .m1 ≤ 4294967295
+  pub further : l .next ≤ 1099511627775
 
 -- ---- marks
 

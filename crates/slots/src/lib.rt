@@ -2,7 +2,7 @@
 use record::Rec;
 use table::State;
 ghost use mathlib.Core.Path.{_≡_};
-ghost use mathlib.Core.Bool.{true, false, _&&_};
+ghost use mathlib.Core.Bool.{true, cond, _&&_};
 ghost use Prim.Native.Nat.{ℕ, _+_, _-_, _*_, _/_, _≤_, _<_, min, max};
 ghost use lib.Dec.{leb, ltb};
 ghost use lib.ListN.{length as len};
@@ -13,7 +13,7 @@ ghost use Rattle.sound.specs.Sound.{records};
 ghost use Rattle.table.specs.Memory.{channel};
 ghost use Rattle.slots.specs.Slots.{slotState, slotAnswer};
 ghost use Rattle.slots.specs.Window.{windowStates, windowSlots, raised};
-ghost use Rattle.slots.specs.Steps.{holdsMore, markOf, firstHold, holds, holdsBefore, after, superframeAt, superframesOf, heldLifted, recordsFrom, Small, Skips, Left, MarkedWhere, fromUpTo, WindowFits, Raised, AtLeast};
+ghost use Rattle.slots.specs.Steps.{holdsMore, markOf, firstHold, holds, holdsBefore, after, Few, heldLeft, heldLifted, recordsFrom, Small, Skips, Left, MarkedWhere, fromUpTo, WindowFits, Raised, AtLeast};
 ghost use Rattle.slots.specs.Claims.{Claims};
 
 // A slot's state.
@@ -35,6 +35,17 @@ struct Series {
     spacing: u64,
     blocks: u64,
     length: u64,
+}
+
+// Superframes of a record's blocks, with 128 added to their slots: of its own, M1 slots each and the first from `from` on, those from `first` up to
+// `own`, and then, where `all` is one more, the further one, from `next` on.
+struct Superframes {
+    from: u64,
+    m1: u64,
+    next: u64,
+    first: u64,
+    own: u64,
+    all: u64,
 }
 
 // ---- the slot state
@@ -149,20 +160,20 @@ fn less(a: u64, b: u64) -> u64
     a - b
 }
 
-// How far a is ahead of b. Where it is behind, the processor's subtraction gives a number above all others here.
-fn ahead_of(a: u64, b: u64) -> u64
-    ensures { λ r. ⌜ (b ≤ a → r ≡ a - b) × (a < b → r ≡ a + 18446744073709551616 - b) ⌝ }
-{
-    std::num::wrapping_sub_u64(a, b)
-}
-
 // Whether so many slots from a start on reach a window from lo up to an end, by one test: their end is ahead of lo by less than both are wide. Where
 // it is behind, it is ahead by more than that. Apart, the first of two tests would often be guessed wrong.
 fn reaches(lo: u64, end: u64, start: u64, width: u64) -> bool
     requires { ⌜ (lo ≤ end) × (start ≤ 4398046511104) × (width ≤ 4398046511104) × (end + width ≤ lo + 18446744073709551615) ⌝ }
     ensures { λ b. ⌜ b ≡ (leb lo (start + width) && ltb start end) ⌝ }
 {
-    ahead_of(start + width, lo) < end - lo + width
+    series::ahead_of(start + width, lo) < end - lo + width
+}
+
+// One of two numbers.
+fn either(which: bool, a: u64, b: u64) -> u64
+    ensures { λ r. ⌜ (r ≡ cond which a b) × (r ≤ max a b) ⌝ }
+{
+    if which { a } else { b }
 }
 
 // A product that stays small.
@@ -354,53 +365,36 @@ fn mark_of(far: u8) -> u8
     2
 }
 
-// Where superframe k of a record's blocks starts, and 128: the further one comes behind the others.
-fn superframe_at(r: Rec, m1: u32, k: u64) -> u64
-    requires { ⌜ k ≤ 255 ⌝ }
-    ensures { λ n. ⌜ (n ≡ superframeAt m1 r k) × (n ≤ 1099511627775) ⌝ }
+// Of so many superframes, M1 slots each, the first from a slot on, how many begin before an end: one, two and all are told apart.
+fn begun_by(end: u64, from: u64, m1: u64, superframes: u64) -> u64
+    requires { ⌜ (from ≤ 4398046511104) × (m1 ≤ 4294967295) ⌝ }
+    ensures { λ n. ⌜ (n ≤ superframes) × ((k : ℕ) → n ≤ k → k < superframes → end ≤ from + k * m1) ⌝ }
 {
-    if k < r.superframes as u64 {
-        return r.first as u64 + times(k, m1 as u64) + 128;
-    }
-    series::further_from(r, m1)
+    let begun = either(
+        end <= from + m1,
+        1,
+        either(end <= from + m1 + m1, 2, superframes),
+    );
+    lesser(begun, superframes)
 }
 
-// How many superframes of blocks it has.
-fn superframes_of(r: Rec) -> u64
-    ensures { λ n. ⌜ (n ≡ superframesOf r) × (n ≤ 256) ⌝ }
+// How many are over before lo, the first at a slot: none, one and two are told apart.
+fn over_by(lo: u64, over: u64, m1: u64) -> u64
+    requires { ⌜ (over ≤ 4398046511104) × (m1 ≤ 4294967295) ⌝ }
+    ensures { λ n. ⌜ ((k : ℕ) → k < n → over + k * m1 ≤ lo) ⌝ }
 {
-    if r.bo == 0 {
-        return r.superframes as u64;
-    }
-    r.superframes as u64 + 1
+    either(over <= lo, 1, 0) + either(over + m1 <= lo, 1, 0)
 }
 
-// Whether neither the superframes of a record from first on, taken as one, nor the further one reach a window whose slots have 128 added too. All is
-// worked out, as a branch by bo would often be guessed wrong.
-fn is_apart(lo: u64, end: u64, m1: u32, r: Rec, spacing: u64) -> bool
-    requires { ⌜ (lo ≤ end) × (0 < r .rate) × (spacing ≡ m1 / r .rate) × (end + 2199023255552 ≤ lo + 18446744073709551615) ⌝ }
-    ensures { λ b. ⌜ (b ≡ true → ((slot : ℕ) → lo ≤ slot → slot < end → heldLifted m1 r slot ≡ false)) ⌝ }
+// Marks the blocks of a record's superframes that are left, in a window whose slots have 128 added too.
+fn mark_left(out: &mut [u8], lo: u64, end: u64, r: Rec, spacing: u64, left: Superframes)
+    requires { ⌜ WindowFits lo end (now out) × (0 < r .rate) × (spacing ≤ 4294967295) × Few left ⌝ }
+    ensures { λ _. ⌜ MarkedWhere (end - lo) (markOf (r .far)) (λ i. heldLeft spacing r left (left .all) (lo + i)) (now (out .entry)) (now (out .exit)) ⌝ }
 {
-    let run = times(r.rate as u64 - 1, spacing) + r.length as u64;
-    let width = times(less(r.superframes as u64, 1), m1 as u64) + run;
-    let own = reaches(lo, end, r.first as u64 + 128, width);
-    let further = reaches(lo, end, series::further_from(r, m1), run) & (r.bo != 0);
-    !(own | further)
-}
-
-// Marks the blocks of a record's superframes, in a window whose slots have 128 added too.
-fn mark_superframes(out: &mut [u8], lo: u64, end: u64, m1: u32, r: Rec, spacing: u64)
-    requires { ⌜ WindowFits lo end (now out) × (0 < r .rate) × (spacing ≡ m1 / r .rate) ⌝ }
-    ensures { λ _. ⌜ MarkedWhere (end - lo) (markOf (r .far)) (λ i. heldLifted m1 r (lo + i)) (now (out .entry)) (now (out .exit)) ⌝ }
-{
-    if is_apart(lo, end, m1, r, spacing) {
-        return;
-    }
-    let n = superframes_of(r);
-    let mut k = 0;
-    while k < n {
+    let mut k = left.first;
+    while k < left.all {
         let s = Series {
-            start: superframe_at(r, m1, k),
+            start: either(k < left.own, left.from + times(k, left.m1), left.next),
             spacing,
             blocks: r.rate as u64,
             length: r.length as u64,
@@ -408,6 +402,36 @@ fn mark_superframes(out: &mut [u8], lo: u64, end: u64, m1: u32, r: Rec, spacing:
         mark_series(out, lo, end, s, mark_of(r.far));
         k += 1;
     }
+}
+
+// Marks the blocks of a record's superframes, in a window whose slots have 128 added too. A record that can't reach it is left by one test of both
+// its series; of others those superframes are left out that are over before it or begin behind it. Which ones they are is
+// worked out without a branch, as it would often be guessed wrong.
+fn mark_superframes(out: &mut [u8], lo: u64, end: u64, m1: u32, r: Rec, spacing: u64)
+    requires { ⌜ WindowFits lo end (now out) × (0 < r .rate) × (spacing ≡ m1 / r .rate) ⌝ }
+    ensures { λ _. ⌜ MarkedWhere (end - lo) (markOf (r .far)) (λ i. heldLifted m1 r (lo + i)) (now (out .entry)) (now (out .exit)) ⌝ }
+{
+    let m = m1 as u64;
+    let from = r.first as u64 + 128;
+    let next = series::further_from(r, m1);
+    let superframes = r.superframes as u64;
+    let run = times(r.rate as u64 - 1, spacing) + r.length as u64;
+    let width = times(less(superframes, 1), m) + run;
+    let own = either(reaches(lo, end, from, width), superframes, 0);
+    let further = either(reaches(lo, end, next, run) & (r.bo != 0), 1, 0);
+    if own + further == 0 {
+        return;
+    }
+    let begun = begun_by(end, from, m, own);
+    let left = Superframes {
+        from,
+        m1: m,
+        next,
+        first: lesser(over_by(lo, from + run, m), less(begun, 1)),
+        own: begun,
+        all: begun + further,
+    };
+    mark_left(out, lo, end, r, spacing, left);
 }
 
 // Marks the slots that a record reserves: none where it has no block. 128 is added to all of them, as the further superframe may begin below 0.

@@ -8,8 +8,8 @@ use mathlib.Core.Bool.{Bool, true, false, cond}
 use mathlib.Core.List.{List, [], _∷_, _++_, map, append-assoc, append-nil, map-append}
 use lib.ListN.{length, getD, take, drop, set, length-append, length-take, length-drop, length-map}
 use lib.Seq.{take-suc, drop-cons, getD-at, set-at, length-take-le, getD-drop, drop-drop, drop-set-lt, take-set-le, take-suc-set}
-use Rattle.octets.specs.Lists.{keep}
-use Rattle.octets.proofs.Lists.{keep-append, length-keep}
+use Rattle.octets.specs.Lists.{keep, every}
+use Rattle.octets.proofs.Lists.{keep-append, keep-every, length-keep, every-append}
 use Rattle.record.specs.Record.{blank}
 use Rattle.record.specs.declared.Rec.{Rec}
 use Rattle.table.specs.Steps.{sieved, mapped}
@@ -25,6 +25,10 @@ module _ (p : Rec → Bool) (vs : List Rec) where
   keep-more : (i : ℕ) → i < length vs → keep p (take (i + 1) vs) ≡ keep p (take i vs) ++ cond (p (getD vs i blank)) (getD vs i blank ∷ []) []
   keep-more i h = rw (add-one, take-suc vs i blank h, keep-append)
 
+  -- all pass still, if it does
+  pub every-more : (i : ℕ) → i < length vs → every p (take i vs) ≡ true → p (getD vs i blank) ≡ true → every p (take (i + 1) vs) ≡ true
+  every-more i h e t = rw (add-one, take-suc vs i blank h, every-append, e, t)
+
   -- it is counted where it passes
   pub count-next : (w : List Rec) (i k next : ℕ) → i < length vs → k ≡ length (keep p (take i vs)) → getD w i blank ≡ getD vs i blank → next ≡ sieved p w i (k + 1) k
       → next ≡ length (keep p (take (i + 1) vs))
@@ -37,6 +41,10 @@ module _ (p : Rec → Bool) (vs : List Rec) where
   -- w is vs with the k that pass of its first i records moved to the front: from i on it is as it was
   abbrev pub Sifted : List Rec → ℕ → ℕ → Type 0
   Sifted w i k = (k ≡ length (keep p (take i vs))) × (take k w ≡ keep p (take i vs)) × (drop i w ≡ drop i vs)
+
+  -- where the first i records all pass, they are at the front already
+  pub sifted-start : (i : ℕ) → i ≤ length vs → every p (take i vs) ≡ true → Sifted vs i i
+  sifted-start i h e = rw (keep-every p (take i vs) e) (sym (length-take-le i vs h), refl, refl)
 
   -- one record more is moved down, and counted where it passes
   pub sifted-next : (w left : List Rec) (i k next : ℕ) → i < length vs → Sifted w i k → next ≡ sieved p w i (k + 1) k → left ≡ set w k (getD w i blank) → Sifted left (i + 1) next

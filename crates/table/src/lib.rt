@@ -7,7 +7,7 @@ ghost use mathlib.Core.Bool.{true};
 ghost use Prim.Native.Nat.{ℕ, _+_, _*_, _≤_, _<_};
 ghost use lib.Dec.{ltb};
 ghost use lib.ListN.{length, getD, set, take};
-ghost use Rattle.octets.specs.Lists.{keep, has};
+ghost use Rattle.octets.specs.Lists.{keep, has, every};
 ghost use Rattle.octets.specs.Refusals.{firstOf};
 ghost use Rattle.octets.specs.Complement.{lifted};
 ghost use Rattle.distance.specs.Distances as Distances;
@@ -81,17 +81,6 @@ fn does_stay(rule: Stay, r: Rec) -> bool
     r.station != rule.station
 }
 
-// Writes record i over record k, unless they are the same: until the first record goes, nothing is moved.
-fn move_down(memory: &mut [u8], i: usize, k: usize)
-    requires { ⌜ (k ≤ i) × (i < capacity (now memory)) ⌝ }
-    ensures left { λ _. ⌜ allRecords (now (memory .exit)) ≡ set (allRecords (now (memory .entry))) k (getD (allRecords (now (memory .entry))) i blank) ⌝ }
-    ensures behind { λ _. ⌜ ((n : ℕ) → k < n → rest n (now (memory .exit)) ≡ rest n (now (memory .entry))) ⌝ }
-{
-    if k < i {
-        record::copy(memory, i, k);
-    }
-}
-
 // Moves record i down to place k, whether it stays or not: a branch by that would often be guessed wrong. The next k.
 fn sift(memory: &mut [u8], i: usize, k: usize, rule: Stay) -> usize
     requires { ⌜ (k ≤ i) × (i < capacity (now memory)) ⌝ }
@@ -100,11 +89,26 @@ fn sift(memory: &mut [u8], i: usize, k: usize, rule: Stay) -> usize
     ensures behind { λ _. ⌜ ((n : ℕ) → k < n → rest n (now (memory .exit)) ≡ rest n (now (memory .entry))) ⌝ }
 {
     let r = record::load(memory, i);
-    move_down(memory, i, k);
+    record::copy(memory, i, k);
     if does_stay(rule, r) {
         return k + 1;
     }
     k
+}
+
+// The first of n records that goes, by its place; n where none does. Up to there nothing has to be moved.
+fn first_gone(memory: &[u8], n: usize, rule: Stay) -> usize
+    requires { ⌜ n ≤ capacity (now memory) ⌝ }
+    ensures { λ r. ⌜ (r ≤ n) × (every (stays rule) (take r (allRecords (now (memory .entry)))) ≡ true) ⌝ }
+{
+    let mut i = 0;
+    while i < n {
+        if !does_stay(rule, record::load(memory, i)) {
+            return i;
+        }
+        i += 1;
+    }
+    n
 }
 
 // Moves those of the first n records that stay to the front, in order. How many they are.
@@ -114,8 +118,8 @@ fn compact(memory: &mut [u8], n: usize, rule: Stay) -> usize
     ensures behind { λ _. ⌜ rest n (now (memory .exit)) ≡ rest n (now (memory .entry)) ⌝ }
 {
     let held = record::held_count(memory, n);
-    let mut i = 0;
-    let mut k = 0;
+    let mut i = first_gone(memory, held, rule);
+    let mut k = i;
     while i < held {
         k = sift(memory, i, k, rule);
         i += 1;

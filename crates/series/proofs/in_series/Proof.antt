@@ -19,30 +19,31 @@ cast-rate c = search needs
 cast-length : tie.Need-cast-length
 cast-length c = search needs
 
-sub-since-superframe : tie.Need-sub-since-superframe
-sub-since-superframe c = omega (arith, started c)
-
-sub-since-superframe-2 : tie.Need-sub-since-superframe-2
-sub-since-superframe-2 c = omega (arith, started c)
-
-since-superframe-requires : tie.Need-since-superframe-requires
-since-superframe-requires c κs = search needs
-
 sub-since-last : tie.Need-sub-since-last
-sub-since-last c = omega (arith, started (c .before))
+sub-since-last c = omega (arith, started c)
+
+sub-since-last-2 : tie.Need-sub-since-last-2
+sub-since-last-2 c = omega (arith, started c)
+
+since-last-requires : tie.Need-since-last-requires
+since-last-requires c κs = search needs
+
+sub-since-last-3 : tie.Need-sub-since-last-3
+sub-since-last-3 c = omega (arith, started (c .before))
 
 quotient-requires : tie.Need-quotient-requires
 quotient-requires c κs = search needs
 
-since-last-requires : tie.Need-since-last-requires
-since-last-requires c κs = search needs
+since-last-requires-2 : tie.Need-since-last-requires-2
+since-last-requires-2 c κs = search needs
 
 returns : tie.Need-returns
 returns c =
     let s = c .before .before .before in
     let a = s .before .before .before .args in
-    rw (c .since-last .ensures, c .before .quotient .ensures .0, c .before .before .since-superframe .ensures)
-    (begun-tells (a .m) (a .r) (a .from) (a .superframes) (a .slot) (s .if1 .taken))
+    let b = started s in
+    rw (c .since-last2 .ensures, c .before .quotient .ensures .0, c .before .before .since-last .ensures)
+    (begun-tells (a .m) (a .r) (a .from) (a .superframes) (a .slot) (b .0) (b .1) (b .2))
 
 returns-2 : tie.Need-returns-2
 returns-2 c =
@@ -55,11 +56,11 @@ in-series-spec =
     (tie.spec
     cast-rate
     cast-length
-    sub-since-superframe
-    sub-since-superframe-2
-    since-superframe-requires
     sub-since-last
-    quotient-requires
+    sub-since-last-2
     since-last-requires
+    sub-since-last-3
+    quotient-requires
+    since-last-requires-2
     returns
     returns-2)

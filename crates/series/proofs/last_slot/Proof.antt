@@ -10,7 +10,7 @@ use Rattle.series.proofs.last_slot.Tie as tie
 
 -- the slots from the start of a superframe's block 0 to that of its last
 blocks : (c : tie.After-to-block) → let a = c .before .before .before .before .before .before .args in c .to-block .result ≡ (a .r .rate - 1) * (a .m1 / a .r .rate)
-blocks c = c .to-block .ensures .0 ∙ rw (c .before .less-one .ensures)
+blocks c = c .to-block .ensures .0 ∙ rw (c .before .less .ensures)
 
 cast-rate : tie.Need-cast-rate
 cast-rate c = search needs
@@ -27,8 +27,8 @@ lifted-requires c κs = search needs
 cast-lifted : tie.Need-cast-lifted
 cast-lifted c = search needs
 
-less-one-requires : tie.Need-less-one-requires
-less-one-requires c κs = search needs
+less-requires : tie.Need-less-requires
+less-requires c κs = search needs
 
 to-block-requires : tie.Need-to-block-requires
 to-block-requires c κs = search needs
@@ -39,17 +39,17 @@ cast-run c = search needs
 add-run : tie.Need-add-run
 add-run c = search needs
 
-add-less-one : tie.Need-add-less-one
-add-less-one c = search needs
+add-less : tie.Need-add-less
+add-less c = search needs
 
 later-by-requires : tie.Need-later-by-requires
 later-by-requires c κs = search needs
 
-add-less-one-2 : tie.Need-add-less-one-2
-add-less-one-2 c = search needs
+add-less-2 : tie.Need-add-less-2
+add-less-2 c = search needs
 
-less-one-requires-2 : tie.Need-less-one-requires-2
-less-one-requires-2 c κs = search needs
+less-requires-2 : tie.Need-less-requires-2
+less-requires-2 c κs = search needs
 
 returns : tie.Need-returns
 returns c =
@@ -67,11 +67,11 @@ sub-times c = search needs
 times-requires : tie.Need-times-requires
 times-requires c κs = search needs
 
-add-less-one-3 : tie.Need-add-less-one-3
-add-less-one-3 c = search needs
+add-less-3 : tie.Need-add-less-3
+add-less-3 c = search needs
 
-add-less-one-4 : tie.Need-add-less-one-4
-add-less-one-4 c = search needs
+add-less-4 : tie.Need-add-less-4
+add-less-4 c = search needs
 
 add-later-by : tie.Need-add-later-by
 add-later-by c = search needs
@@ -79,11 +79,11 @@ add-later-by c = search needs
 later-by-requires-2 : tie.Need-later-by-requires-2
 later-by-requires-2 c κs = search needs
 
-add-less-one-5 : tie.Need-add-less-one-5
-add-less-one-5 c = search needs
+add-less-5 : tie.Need-add-less-5
+add-less-5 c = search needs
 
-less-one-requires-3 : tie.Need-less-one-requires-3
-less-one-requires-3 c κs = search needs
+less-requires-3 : tie.Need-less-requires-3
+less-requires-3 c κs = search needs
 
 returns-2 : tie.Need-returns-2
 returns-2 c =
@@ -102,21 +102,21 @@ last-slot-spec =
     cast-first
     lifted-requires
     cast-lifted
-    less-one-requires
+    less-requires
     to-block-requires
     cast-run
     add-run
-    add-less-one
+    add-less
     later-by-requires
-    add-less-one-2
-    less-one-requires-2
+    add-less-2
+    less-requires-2
     returns
     sub-times
     times-requires
-    add-less-one-3
-    add-less-one-4
+    add-less-3
+    add-less-4
     add-later-by
     later-by-requires-2
-    add-less-one-5
-    less-one-requires-3
+    add-less-5
+    less-requires-3
     returns-2)

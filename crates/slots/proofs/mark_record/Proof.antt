@@ -5,8 +5,9 @@ use native.Mathlib.Omega.{arith}
 use denote.Ref.{now}
 use borrow.Author.Needs.{needs}
 use Rattle.series.specs.Series.{reserves}
+use Rattle.series.proofs.Series.{reserves-none}
 use Rattle.slots.proofs.Marks.{marked-none, marked-agree, marked-within}
-use Rattle.slots.proofs.Blocks.{reserves-lifted, reserves-none}
+use Rattle.slots.proofs.Lifted.{reserves-lifted}
 use Rattle.slots.proofs.mark_record.Statement.{statement}
 use Rattle.slots.proofs.mark_record.Tie as tie
 
@@ -16,7 +17,7 @@ cast-rate c = search needs
 returns : tie.Need-returns
 returns c =
     let a = c .before .before .before .args in
-    marked-none (λ i. reserves (a .m1) (a .r) (a .lo + i)) (now (a .out)) (λ i _. reserves-none (a .m1) (a .r) (a .lo + i) (omega (arith, c .if1 .taken)))
+    marked-none (λ i. reserves (a .m1) (a .r) (a .lo + i)) (now (a .out)) (λ i _. reserves-none (a .m1) (a .r) (omega (arith, c .if1 .taken)) (a .lo + i))
 
 add-mark-superframes : tie.Need-add-mark-superframes
 add-mark-superframes c = search needs

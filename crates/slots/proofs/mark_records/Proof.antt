@@ -1,5 +1,5 @@
 -- `slots::mark_records` meets its contract: by the records so far and those to come each octet is what it is to be. Assumes nothing.
-use Prim.Native.Nat.{ℕ, _-_, _≤_}
+use Prim.Native.Nat.{ℕ, _-_}
 use native.Mathlib.Omega.{arith}
 use mathlib.Core.List.{List}
 use denote.Ref.{now}

@@ -1,7 +1,7 @@
 -- `slots::mark_series` meets its contract: nothing of a series that starts past the end or is over before lo; blocks apart, or any. Assumes nothing.
 use Prim.Native.Nat.{_+_, _-_, _*_, _≤_, _<_}
 use native.Mathlib.Omega.{arith}
-use mathlib.Core.Path.{_≡_, sym, _∙_}
+use mathlib.Core.Path.{sym, _∙_}
 use mathlib.Core.Bool.{and-eq-true-iff, false≢true}
 use lib.Dec.{leb, ltb}
 use denote.Ref.{now}

@@ -1,123 +1,211 @@
--- `slots::mark_superframes` meets its contract: the superframes before the one that the loop has come to are marked. Assumes nothing.
-use Prim.Native.Nat.{_+_, _-_, _*_, _≤_}
-use mathlib.Core.Path.{_≡_, refl, _∙_}
+-- `slots::mark_superframes` meets its contract: the superframes that are left hold what all of the record's do. Assumes nothing.
+use Prim.Native.Nat.{ℕ, _+_, _-_, _*_}
+use mathlib.Core.Path.{_≡_, refl, sym, ap, _∙_}
+use mathlib.Core.Bool.{Bool, cond, _&&_}
 use native.Mathlib.Omega.{arith}
-use native.Mathlib.Nat.{div-le-self, mul-le-mul}
+use native.Mathlib.Nat.{div-le-self}
 use denote.Ref.{now}
-use lib.ListN.{length}
 use borrow.Author.Needs.{needs}
-use Rattle.slots.specs.Steps.{markOf, heldLifted, MarkedWhere}
-use Rattle.slots.proofs.Marks.{marked-none, marked-agree, marked-more, mark-≤}
-use Rattle.slots.proofs.Blocks.{someBelow-none, firstLifted, lifted-next}
+use Rattle.series.specs.Series.{hasFurther, furtherFrom}
+use Rattle.slots.specs.Steps.{heldLifted}
+use Rattle.slots.proofs.Marks.{marked-none, marked-agree}
+use Rattle.slots.proofs.Blocks.{someBelow-none}
+use Rattle.slots.proofs.Lifted.{runOf, Asked, Between, left-holds}
 use Rattle.slots.proofs.mark_superframes.Statement.{statement}
 use Rattle.slots.proofs.mark_superframes.Tie as tie
 
-abbrev Inv-loop : tie.InvT-loop
-Inv-loop out₀ lo end m1 r spacing n k₀ out k =
-    (k ≤ n) × (length out ≡ length out₀) × MarkedWhere (end - lo) (markOf (r .far)) (λ i. firstLifted m1 r k (lo + i)) out₀ out
+abbrev at-own : tie.After-either2 → tie.After-either
+at-own x = x .before .before .before
 
-abbrev μ-loop : tie.MeasureT-loop
-μ-loop out₀ lo end m1 r spacing n k₀ out k = n - k
+abbrev at-times : tie.After-either2 → tie.After-times
+at-times x = at-own x .before .before .before .before .before
 
-abbrev entry : tie.At-loop Inv-loop μ-loop → tie.Start Inv-loop μ-loop
-entry h = h .before .before .before .before .before
+abbrev at-further : tie.After-either2 → tie.After-further-from
+at-further x = at-times x .before .before .before
 
-abbrev at-loop : tie.After-superframe-at Inv-loop μ-loop → tie.At-loop Inv-loop μ-loop
-at-loop x = x .before .before
+abbrev entry : tie.After-either2 → tie.Start
+entry x = at-further x .before .before .before
 
-abbrev at-superframe : tie.After-mark-of Inv-loop μ-loop → tie.After-superframe-at Inv-loop μ-loop
-at-superframe m = m .before .before .before .before
+-- the slots of one superframe
+runs : (x : tie.After-either2) → let a = entry x .args in at-times x .times .result + a .r .length ≡ runOf (a .m1) (a .r)
+runs x =
+    let r = entry x .args .r in
+    ap (λ (n : ℕ). n + r .length) (at-times x .times .ensures .0 ∙ ap (λ (q : ℕ). (r .rate - 1) * q) (entry x .pre .2))
 
-is-apart-requires : tie.Need-is-apart-requires Inv-loop μ-loop
-is-apart-requires c κs = search needs
+-- what the tests find
+asked : (x : tie.After-either2) → let a = entry x .args in Asked (a .m1) (a .r) (a .lo) (a .end) (at-own x .either .result) (x .either2 .result)
+asked x =
+    let at-reaches = x .before .before .before .before in
+    let at-times2 = at-reaches .before in
+    let r = entry x .args .r in
+    let run = runs x in
+    record {
+      reach =
+          at-own x .either .ensures .0
+          ∙ ap (λ (b : Bool). cond b (r .superframes) 0) (rw (at-times2 .times2 .ensures .0, at-times2 .before .less .ensures, run) at (at-reaches .reaches .ensures));
+      more =
+          x .either2 .ensures .0
+          ∙ ap (λ (b : Bool). cond (b && hasFurther r) 1 0) (rw (at-further x .further-from .ensures .0, run) at (x .before .before .reaches2 .ensures));
+    }
 
-returns : tie.Need-returns Inv-loop μ-loop
+cast-from : tie.Need-cast-from
+cast-from c = search needs
+
+add-from : tie.Need-add-from
+add-from c = search needs
+
+further-from-requires : tie.Need-further-from-requires
+further-from-requires c κs = search needs
+
+cast-superframes : tie.Need-cast-superframes
+cast-superframes c = search needs
+
+cast-times : tie.Need-cast-times
+cast-times c = search needs
+
+sub-times : tie.Need-sub-times
+sub-times c = search needs
+
+times-requires : tie.Need-times-requires
+times-requires c κs =
+    let s = c .before .before .before .before .before in
+    (omega (arith, c .struct-known3 .given), omega (arith, s .fits, s .pre .2, div-le-self (s .args .m1) (s .args .r .rate)))
+
+cast-run : tie.Need-cast-run
+cast-run c = search needs
+
+add-run : tie.Need-add-run
+add-run c = search needs
+
+less-requires : tie.Need-less-requires
+less-requires c κs = search needs
+
+times-requires-2 : tie.Need-times-requires-2
+times-requires-2 c κs = search needs
+
+add-width : tie.Need-add-width
+add-width c = search needs
+
+reaches-requires : tie.Need-reaches-requires
+reaches-requires c κs = search needs
+
+either-requires : tie.Need-either-requires
+either-requires c κs = search needs
+
+reaches-requires-2 : tie.Need-reaches-requires-2
+reaches-requires-2 c κs = search needs
+
+either-requires-2 : tie.Need-either-requires-2
+either-requires-2 c κs = search needs
+
+add-if1 : tie.Need-add-if1
+add-if1 c = search needs
+
+returns : tie.Need-returns
 returns c =
-    let a = c .before .before .before .args in
-    marked-none (λ i. heldLifted (a .m1) (a .r) (a .lo + i)) (now (a .out)) (λ i l. c .before .is-apart .ensures (c .if1 .taken) (a .lo + i) (omega arith) (omega arith))
-
-superframes-of-requires : tie.Need-superframes-of-requires Inv-loop μ-loop
-superframes-of-requires c κs = search needs
-
-loop-holds : tie.Need-loop-holds Inv-loop μ-loop
-loop-holds c =
-    let a = c .before .before .before .before .args in
-    (omega arith, refl, marked-none (λ i. firstLifted (a .m1) (a .r) 0 (a .lo + i)) (now (a .out)) (λ i _. someBelow-none _))
-
-superframe-at-requires : tie.Need-superframe-at-requires Inv-loop μ-loop
-superframe-at-requires c κs = search needs
-
-cast-t13 : tie.Need-cast-t13 Inv-loop μ-loop
-cast-t13 c = search needs
-
-cast-t14 : tie.Need-cast-t14 Inv-loop μ-loop
-cast-t14 c = search needs
-
-mark-of-requires : tie.Need-mark-of-requires Inv-loop μ-loop
-mark-of-requires c κs = search needs
-
-mark-series-requires : tie.Need-mark-series-requires Inv-loop μ-loop
-mark-series-requires c κs =
-    let x = at-superframe c in
-    let h = at-loop x in
-    let s = entry h in
+    let x = c .before in
+    let s = entry x in
     let a = s .args in
-    let few : a .r .rate ≤ 255 = omega (arith, c .before .before .struct-known2 .given) in
-    let close : a .spacing ≤ 4294967295 = omega (arith, s .fits, s .pre .2, div-le-self (a .m1) (a .r .rate)) in
-    let run : a .r .rate * a .spacing ≤ 255 * 4294967295 = mul-le-mul few close in (
-      record { ahead = s .pre .0 .ahead; behind = omega (arith, s .pre .0 .behind, h .loop .inv .1) },
-      record { few = few; close = close; short = omega (arith, c .before .before .struct-known2 .given); early = omega (arith, x .superframe-at .ensures .1) },
+    let own = at-own x .either .result in
+    let none : own + x .either2 .result ≡ 0 = c .if1 .taken in
+    let e : 0 + x .either2 .result ≡ 0 = omega arith in
+    let between : Between (a .m1) (a .r) (a .lo) (a .end) own 0 0 = record { some = omega arith; ahead = λ k _ l. absurd (omega arith); most = omega arith; past = λ k l. absurd (omega arith) } in
+    marked-none (λ i. heldLifted (a .m1) (a .r) (a .lo + i)) (now (a .out)) (λ i l.
+    sym (left-holds (asked x) between (a .lo + i) (omega arith) (omega arith) (a .spacing) (furtherFrom (a .m1) (a .r)) (s .pre .2) refl)
+    ∙ rw e (someBelow-none _))
+
+begun-by-requires : tie.Need-begun-by-requires
+begun-by-requires c κs =
+    let x = c .before in
+    (omega (arith, x .before .struct-known5 .given), omega (arith, entry x .fits))
+
+add-over-by : tie.Need-add-over-by
+add-over-by c = search needs
+
+over-by-requires : tie.Need-over-by-requires
+over-by-requires c κs =
+    let x = c .before .before in
+    (omega (arith, x .before .struct-known5 .given, at-times x .times .ensures .1), omega (arith, entry x .fits))
+
+less-requires-2 : tie.Need-less-requires-2
+less-requires-2 c κs = search needs
+
+lesser-requires : tie.Need-lesser-requires
+lesser-requires c κs = search needs
+
+add-t24 : tie.Need-add-t24
+add-t24 c = search needs
+
+mark-left-requires : tie.Need-mark-left-requires
+mark-left-requires c κs =
+    let l = c .before in
+    let b = l .before .before .before in
+    let x = b .before .before in
+    let s = entry x in
+    let known = x .before .struct-known5 .given in
+    let begun = b .begun-by .ensures .0 in
+    let own = at-own x .either .ensures .1 in
+    let further = x .either2 .ensures .1 in (
+      s .pre .0,
       s .pre .1,
-      rw (c .mark-of .ensures) (mark-≤ (a .r .far)),
+      omega (arith, s .fits, s .pre .2, div-le-self (s .args .m1) (s .args .r .rate)),
+      record {
+        some = omega (arith, l .lesser .ensures, l .before .less2 .ensures);
+        few = omega (arith, known);
+        early = omega (arith, known);
+        short = omega (arith, s .fits);
+        further = at-further x .further-from .ensures .1;
+      },
     )
 
-add-k : tie.Need-add-k Inv-loop μ-loop
-add-k c = search needs
-
-loop-less : tie.Need-loop-less Inv-loop μ-loop
-loop-less c = search needs
-
-loop-again : tie.Need-loop-again Inv-loop μ-loop
-loop-again c =
-    let m = c .before .before in
-    let x = at-superframe (m .before) in
-    let h = at-loop x in
-    let s = entry h in
-    let a = s .args in
-    let inv = h .loop .inv in (
-      omega (arith, x .before .loop-test .taken),
-      m .mark-series .kept .0 ∙ inv .1,
-      marked-agree (λ i. firstLifted (a .m1) (a .r) (h .loop .k + 1) (a .lo + i)) (marked-more (inv .2) (rw (m .before .mark-of .ensures) at (m .mark-series .ensures))) (λ i _.
-          lifted-next (a .m1) (a .r) (h .loop .k) (a .lo + i) (x .superframe-at .result) (a .spacing) (x .superframe-at .ensures .0) (s .pre .2)),
-    )
-
-same-length : tie.Need-same-length Inv-loop μ-loop
+same-length : tie.Need-same-length
 same-length c = search needs
 
-returns-2 : tie.Need-returns-2 Inv-loop μ-loop
+returns-2 : tie.Need-returns-2
 returns-2 c =
-    let h = c .before in
-    let n = h .before .superframes-of in
-    let e : h .loop .k ≡ n .result = omega (arith, h .loop .inv .0, c .loop-test .left) in
-    rw (e ∙ n .ensures .0) at (h .loop .inv .2)
+    let l = c .before .before .before .before in
+    let b = l .before .before .before in
+    let x = b .before .before in
+    let s = entry x in
+    let a = s .args in
+    let next = at-further x .further-from in
+    let between : Between (a .m1) (a .r) (a .lo) (a .end) (at-own x .either .result) (b .begun-by .result) (l .lesser .result) = record {
+      some = b .begun-by .ensures .0;
+      ahead = b .begun-by .ensures .1;
+      most = omega (arith, l .lesser .ensures, l .before .less2 .ensures);
+      past = λ k h. omega (arith, l .before .before .over-by .ensures k (omega (arith, l .lesser .ensures)), runs x);
+    } in
+    marked-agree (λ i. heldLifted (a .m1) (a .r) (a .lo + i)) (c .before .before .mark-left .ensures) (λ i h.
+    left-holds (asked x) between (a .lo + i) (omega arith) (omega arith) (a .spacing) (next .result) (s .pre .2) (next .ensures .0))
 
 pub mark-superframes-spec : {M : Type 1} → statement M
 mark-superframes-spec =
     tie.close
     (tie.spec
-    Inv-loop
-    μ-loop
-    is-apart-requires
+    cast-from
+    add-from
+    further-from-requires
+    cast-superframes
+    cast-times
+    sub-times
+    times-requires
+    cast-run
+    add-run
+    less-requires
+    times-requires-2
+    add-width
+    reaches-requires
+    either-requires
+    reaches-requires-2
+    either-requires-2
+    add-if1
     returns
-    superframes-of-requires
-    loop-holds
-    superframe-at-requires
-    cast-t13
-    cast-t14
-    mark-of-requires
-    mark-series-requires
-    add-k
-    loop-less
-    loop-again
+    begun-by-requires
+    add-over-by
+    over-by-requires
+    less-requires-2
+    lesser-requires
+    add-t24
+    mark-left-requires
     same-length
     returns-2)

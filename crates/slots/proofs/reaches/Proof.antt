@@ -1,12 +1,11 @@
 -- `slots::reaches` meets its contract: how far the end is ahead of lo tells, and where it is behind that is more than both are wide. Assumes nothing.
 use Prim.Native.Nat.{_+_, _-_}
-use mathlib.Core.Path.{_≡_}
-use mathlib.Core.Bool.{_&&_}
 use native.Mathlib.Omega.{arith}
-use lib.Dec.{leb, ltb}
+use lib.Dec.{leb}
 use borrow.Author.Needs.{needs}
 use borrow.Author.Tests.{leb-true, leb-false, le-ltb}
 use Rattle.octets.proofs.Refusals.{by-test}
+use Rattle.series.specs.Candidate.{aheadOf}
 use Rattle.series.proofs.Tests.{ltb-same}
 use Rattle.slots.proofs.reaches.Statement.{statement}
 use Rattle.slots.proofs.reaches.Tie as tie
@@ -24,13 +23,17 @@ add-result : tie.Need-add-result
 add-result c = search needs
 
 returns : tie.Need-returns
+unfolding aheadOf
 returns c =
-    let s = c .before in
-    let a = s .args in
+    let a = c .before .args in
     let past = a .start + a .width in
     by-test (leb (a .lo) past)
-    (λ b. rw b (ltb-same (c .ahead-of .result) (a .end - a .lo + a .width) (a .start) (a .end) (λ h. omega (arith, s .pre, leb-true (a .lo) past b, c .ahead-of .ensures .0 (leb-true (a .lo) past b))) (λ h. omega (arith, s .pre, leb-true (a .lo) past b, c .ahead-of .ensures .0 (leb-true (a .lo) past b)))))
-    (λ b. rw b (le-ltb (c .ahead-of .result) (a .end - a .lo + a .width) (omega (arith, s .pre, s .fits, leb-false (a .lo) past b, c .ahead-of .ensures .1 (leb-false (a .lo) past b)))))
+    (λ b.
+    let h = leb-true (a .lo) past b in
+    rw (c .ahead-of .ensures, b) (ltb-same (past - a .lo) (a .end - a .lo + a .width) (a .start) (a .end) (λ l. omega arith) (λ l. omega arith)))
+    (λ b.
+    let h = leb-false (a .lo) past b in
+    rw (c .ahead-of .ensures, b) (le-ltb (past + 18446744073709551616 - a .lo) (a .end - a .lo + a .width) (omega arith)))
 
 pub reaches-spec : {M : Type 1} → statement M
 reaches-spec = tie.close (tie.spec add-ahead-of ahead-of-requires sub-result add-result returns)
