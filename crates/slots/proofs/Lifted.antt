@@ -12,7 +12,7 @@ use Rattle.series.specs.Series.{someBelow, start, inBlock, inSeries, hasFurther
 use Rattle.series.proofs.Tests.{fails, agree}
 use Rattle.series.proofs.SomeBelow.{someBelow-at, someBelow-elim}
 use Rattle.slots.specs.declared.Superframes.{Superframes}
-use Rattle.slots.specs.Steps.{holds, superframeOf, heldLifted, leftAt, heldLeft}
+use Rattle.slots.specs.Steps.{holds, superframeOf, heldLifted, Between, leftAt, heldLeft}
 use Rattle.slots.proofs.Tests.{block-shift}
 use Rattle.slots.proofs.Blocks.{someBelow-next, someBelow-agree, holds-within}
 
@@ -72,14 +72,7 @@ module _ (m1 : ℕ) (r : Rec) (lo end : ℕ) where
     pub reach : own ≡ cond (meets lo end (r .first + 128) ((r .superframes - 1) * m1 + runOf m1 r)) (r .superframes) 0
     pub more : further ≡ cond (meets lo end (furtherFrom m1 r) (runOf m1 r) && hasFurther r) 1 0
 
-  -- of so many of its own, none from begun on begins before the end, and each before the first that is left is over before lo
-  pub record Between (own begun first : ℕ) : Type 0 where
-    pub some : begun ≤ own
-    pub ahead : (k : ℕ) → begun ≤ k → k < own → end ≤ r .first + 128 + k * m1
-    pub most : first ≤ begun
-    pub past : (k : ℕ) → k < first → r .first + 128 + runOf m1 r + k * m1 ≤ lo
-
-module _ {m1 : ℕ} {r : Rec} {lo end own further begun first : ℕ} (asked : Asked m1 r lo end own further) (between : Between m1 r lo end own begun first)
+module _ {m1 : ℕ} {r : Rec} {lo end own further begun first : ℕ} (asked : Asked m1 r lo end own further) (between : Between lo end (r .first + 128) (r .first + 128 + runOf m1 r) m1 own (record { first = first; behind = begun }))
     (slot : ℕ) (l : lo ≤ slot) (h : slot < end) where
   -- a superframe that starts at a slot holds this one
   abbrev hold : ℕ → Bool

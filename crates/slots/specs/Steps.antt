@@ -11,6 +11,7 @@ use Rattle.record.specs.Record.{allRecords}
 use Rattle.series.specs.Series.{someBelow, inBlock, hasFurther, furtherFrom, reserves}
 use Rattle.slots.specs.declared.Series.{Series}
 use Rattle.slots.specs.declared.Superframes.{Superframes}
+use Rattle.slots.specs.declared.Bounds.{Bounds}
 use Rattle.slots.specs.Slots.{recordFar}
 use Rattle.slots.specs.Window.{slotStateNumber}
 
@@ -76,6 +77,13 @@ abbrev pub heldLifted : ℕ → Rec → ℕ → Bool
 heldLifted m1 r slot =
     someBelow (r .superframes) (λ k. holds (superframeOf (m1 / r .rate) r (r .first + 128 + k * m1)) slot)
     || (hasFurther r && holds (superframeOf (m1 / r .rate) r (furtherFrom m1 r)) slot)
+
+-- of so many, the first from a slot on and over at another, each before the bounds is over before lo, and none behind them begins before an end
+pub record Between (lo end from over m1 asked : ℕ) (b : Bounds) : Type 0 where
+  pub some : b .behind ≤ asked
+  pub most : b .first ≤ b .behind
+  pub past : (k : ℕ) → k < b .first → over + k * m1 ≤ lo
+  pub ahead : (k : ℕ) → b .behind ≤ k → k < asked → end ≤ from + k * m1
 
 -- where number k of those that are left starts
 abbrev pub leftAt : Superframes → ℕ → ℕ

@@ -13,7 +13,7 @@ ghost use Rattle.sound.specs.Sound.{records};
 ghost use Rattle.table.specs.Memory.{channel};
 ghost use Rattle.slots.specs.Slots.{slotState, slotAnswer};
 ghost use Rattle.slots.specs.Window.{windowStates, windowSlots, raised};
-ghost use Rattle.slots.specs.Steps.{holdsMore, markOf, firstHold, holds, holdsBefore, after, Few, heldLeft, heldLifted, recordsFrom, Small, Skips, Left, MarkedWhere, fromUpTo, WindowFits, Raised, AtLeast};
+ghost use Rattle.slots.specs.Steps.{holdsMore, markOf, firstHold, holds, holdsBefore, after, Few, Between, heldLeft, heldLifted, recordsFrom, Small, Skips, Left, MarkedWhere, fromUpTo, WindowFits, Raised, AtLeast};
 ghost use Rattle.slots.specs.Claims.{Claims};
 
 // A slot's state.
@@ -46,6 +46,12 @@ struct Superframes {
     first: u64,
     own: u64,
     all: u64,
+}
+
+// The first of some superframes, and the first behind them.
+struct Bounds {
+    first: u64,
+    behind: u64,
 }
 
 // ---- the slot state
@@ -339,7 +345,7 @@ fn mark_series(out: &mut [u8], lo: u64, end: u64, s: Series, mark: u8)
     requires { ⌜ WindowFits lo end (now out) × Small s × (0 < s .blocks) × (mark ≤ 2) ⌝ }
     ensures { λ _. ⌜ MarkedWhere (end - lo) mark (λ i. holds s (lo + i)) (now (out .entry)) (now (out .exit)) ⌝ }
 {
-    if !reaches(lo, end, s.start, run_of(s)) {
+    if s.start + run_of(s) < lo {
         return;
     }
     if (s.spacing <= s.length) | (32 < s.length) {
@@ -386,6 +392,23 @@ fn over_by(lo: u64, over: u64, m1: u64) -> u64
     either(over <= lo, 1, 0) + either(over + m1 <= lo, 1, 0)
 }
 
+// Of so many superframes as are asked, none of a record's own or all, those that are left in a window: from the first that isn't over before it up to
+// the first that begins behind it. `over` is where the first of all is over. Where there is but one, none is left out.
+fn left_of(lo: u64, end: u64, from: u64, over: u64, m1: u64, superframes: u64, asked: u64) -> Bounds
+    requires { ⌜ (from ≤ over) × (over ≤ 4398046511104) × (m1 ≤ 4294967295) × (asked ≤ superframes) ⌝ }
+    ensures { λ b. ⌜ Between lo end from over m1 asked b ⌝ }
+{
+    if superframes <= 1 {
+        return Bounds {
+            first: 0,
+            behind: asked,
+        };
+    }
+    let behind = begun_by(end, from, m1, asked);
+    let first = lesser(over_by(lo, over, m1), less(behind, 1));
+    Bounds { first, behind }
+}
+
 // Marks the blocks of a record's superframes that are left, in a window whose slots have 128 added too.
 fn mark_left(out: &mut [u8], lo: u64, end: u64, r: Rec, spacing: u64, left: Superframes)
     requires { ⌜ WindowFits lo end (now out) × (0 < r .rate) × (spacing ≤ 4294967295) × Few left ⌝ }
@@ -422,16 +445,27 @@ fn mark_superframes(out: &mut [u8], lo: u64, end: u64, m1: u32, r: Rec, spacing:
     if own + further == 0 {
         return;
     }
-    let begun = begun_by(end, from, m, own);
+    let b = left_of(lo, end, from, from + run, m, superframes, own);
     let left = Superframes {
         from,
         m1: m,
         next,
-        first: lesser(over_by(lo, from + run, m), less(begun, 1)),
-        own: begun,
-        all: begun + further,
+        first: b.first,
+        own: b.behind,
+        all: b.behind + further,
     };
     mark_left(out, lo, end, r, spacing, left);
+}
+
+// M1 over a rate, the remainder dropped. A record of one block to a superframe is not divided for.
+fn spacing_of(m1: u32, rate: u8) -> u64
+    requires { ⌜ 0 < rate ⌝ }
+    ensures { λ n. ⌜ n ≡ m1 / rate ⌝ }
+{
+    if rate == 1 {
+        return m1 as u64;
+    }
+    m1 as u64 / rate as u64
 }
 
 // Marks the slots that a record reserves: none where it has no block. 128 is added to all of them, as the further superframe may begin below 0.
@@ -443,7 +477,7 @@ fn mark_record(out: &mut [u8], lo: u64, end: u64, m1: u32, r: Rec)
     if rate < 1 {
         return;
     }
-    mark_superframes(out, lo + 128, end + 128, m1, r, m1 as u64 / rate);
+    mark_superframes(out, lo + 128, end + 128, m1, r, spacing_of(m1, r.rate));
 }
 
 // ---- the slot states of a window

@@ -25,8 +25,8 @@ add-mark-superframes c = search needs
 add-mark-superframes-2 : tie.Need-add-mark-superframes-2
 add-mark-superframes-2 c = search needs
 
-div-mark-superframes : tie.Need-div-mark-superframes
-div-mark-superframes c = search needs
+spacing-of-requires : tie.Need-spacing-of-requires
+spacing-of-requires c κs = search needs
 
 mark-superframes-requires : tie.Need-mark-superframes-requires
 mark-superframes-requires c κs = search needs
@@ -36,7 +36,7 @@ same-length c = search needs
 
 returns-2 : tie.Need-returns-2
 returns-2 c =
-    let a = c .before .before .before .before .before .before .before .args in
+    let a = c .before .before .before .before .before .before .before .before .args in
     marked-agree (λ i. reserves (a .m1) (a .r) (a .lo + i)) (marked-within (a .end - a .lo) (c .before .before .mark-superframes .ensures) (omega arith)) (λ i _.
     let e : a .lo + i + 128 ≡ a .lo + 128 + i = omega arith in
     rw (reserves-lifted (a .m1) (a .r) (a .lo + i), e))
@@ -49,7 +49,7 @@ mark-record-spec =
     returns
     add-mark-superframes
     add-mark-superframes-2
-    div-mark-superframes
+    spacing-of-requires
     mark-superframes-requires
     same-length
     returns-2)

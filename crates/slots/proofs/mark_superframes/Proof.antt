@@ -7,10 +7,10 @@ use native.Mathlib.Nat.{div-le-self}
 use denote.Ref.{now}
 use borrow.Author.Needs.{needs}
 use Rattle.series.specs.Series.{hasFurther, furtherFrom}
-use Rattle.slots.specs.Steps.{heldLifted}
+use Rattle.slots.specs.Steps.{heldLifted, Between}
 use Rattle.slots.proofs.Marks.{marked-none, marked-agree}
 use Rattle.slots.proofs.Blocks.{someBelow-none}
-use Rattle.slots.proofs.Lifted.{runOf, Asked, Between, left-holds}
+use Rattle.slots.proofs.Lifted.{runOf, Asked, left-holds}
 use Rattle.slots.proofs.mark_superframes.Statement.{statement}
 use Rattle.slots.proofs.mark_superframes.Tie as tie
 
@@ -109,49 +109,38 @@ returns c =
     let own = at-own x .either .result in
     let none : own + x .either2 .result ≡ 0 = c .if1 .taken in
     let e : 0 + x .either2 .result ≡ 0 = omega arith in
-    let between : Between (a .m1) (a .r) (a .lo) (a .end) own 0 0 = record { some = omega arith; ahead = λ k _ l. absurd (omega arith); most = omega arith; past = λ k l. absurd (omega arith) } in
+    let between : Between (a .lo) (a .end) (a .r .first + 128) (a .r .first + 128 + runOf (a .m1) (a .r)) (a .m1) own (record { first = 0; behind = 0 }) = record { some = omega arith; ahead = λ k _ l. absurd (omega arith); most = omega arith; past = λ k l. absurd (omega arith) } in
     marked-none (λ i. heldLifted (a .m1) (a .r) (a .lo + i)) (now (a .out)) (λ i l.
     sym (left-holds (asked x) between (a .lo + i) (omega arith) (omega arith) (a .spacing) (furtherFrom (a .m1) (a .r)) (s .pre .2) refl)
     ∙ rw e (someBelow-none _))
 
-begun-by-requires : tie.Need-begun-by-requires
-begun-by-requires c κs =
+add-left-of : tie.Need-add-left-of
+add-left-of c = search needs
+
+left-of-requires : tie.Need-left-of-requires
+left-of-requires c κs =
     let x = c .before in
-    (omega (arith, x .before .struct-known5 .given), omega (arith, entry x .fits))
+    let own = at-own x .either .ensures .1 in
+    (omega arith, omega (arith, x .before .struct-known5 .given, at-times x .times .ensures .1), omega (arith, entry x .fits), omega arith)
 
-add-over-by : tie.Need-add-over-by
-add-over-by c = search needs
-
-over-by-requires : tie.Need-over-by-requires
-over-by-requires c κs =
-    let x = c .before .before in
-    (omega (arith, x .before .struct-known5 .given, at-times x .times .ensures .1), omega (arith, entry x .fits))
-
-less-requires-2 : tie.Need-less-requires-2
-less-requires-2 c κs = search needs
-
-lesser-requires : tie.Need-lesser-requires
-lesser-requires c κs = search needs
-
-add-t24 : tie.Need-add-t24
-add-t24 c = search needs
+add-t17 : tie.Need-add-t17
+add-t17 c = search needs
 
 mark-left-requires : tie.Need-mark-left-requires
 mark-left-requires c κs =
-    let l = c .before in
-    let b = l .before .before .before in
+    let b = c .before .before in
     let x = b .before .before in
     let s = entry x in
     let known = x .before .struct-known5 .given in
-    let begun = b .begun-by .ensures .0 in
+    let between = b .left-of .ensures in
     let own = at-own x .either .ensures .1 in
     let further = x .either2 .ensures .1 in (
       s .pre .0,
       s .pre .1,
       omega (arith, s .fits, s .pre .2, div-le-self (s .args .m1) (s .args .r .rate)),
       record {
-        some = omega (arith, l .lesser .ensures, l .before .less2 .ensures);
-        few = omega (arith, known);
+        some = omega (arith, between .most);
+        few = omega (arith, known, between .some);
         early = omega (arith, known);
         short = omega (arith, s .fits);
         further = at-further x .further-from .ensures .1;
@@ -163,18 +152,12 @@ same-length c = search needs
 
 returns-2 : tie.Need-returns-2
 returns-2 c =
-    let l = c .before .before .before .before in
-    let b = l .before .before .before in
+    let b = c .before .before .before .before .before in
     let x = b .before .before in
     let s = entry x in
     let a = s .args in
     let next = at-further x .further-from in
-    let between : Between (a .m1) (a .r) (a .lo) (a .end) (at-own x .either .result) (b .begun-by .result) (l .lesser .result) = record {
-      some = b .begun-by .ensures .0;
-      ahead = b .begun-by .ensures .1;
-      most = omega (arith, l .lesser .ensures, l .before .less2 .ensures);
-      past = λ k h. omega (arith, l .before .before .over-by .ensures k (omega (arith, l .lesser .ensures)), runs x);
-    } in
+    let between : Between (a .lo) (a .end) (a .r .first + 128) (a .r .first + 128 + runOf (a .m1) (a .r)) (a .m1) (at-own x .either .result) (b .left-of .result) = rw (← runs x) (b .left-of .ensures) in
     marked-agree (λ i. heldLifted (a .m1) (a .r) (a .lo + i)) (c .before .before .mark-left .ensures) (λ i h.
     left-holds (asked x) between (a .lo + i) (omega arith) (omega arith) (a .spacing) (next .result) (s .pre .2) (next .ensures .0))
 
@@ -200,12 +183,9 @@ mark-superframes-spec =
     either-requires-2
     add-if1
     returns
-    begun-by-requires
-    add-over-by
-    over-by-requires
-    less-requires-2
-    lesser-requires
-    add-t24
+    add-left-of
+    left-of-requires
+    add-t17
     mark-left-requires
     same-length
     returns-2)
