@@ -1,4 +1,4 @@
--- The one block of a series that could hold a slot, worked out by division (document 02, No. 3).
+-- The one block of a series that could hold a slot, worked out by division (document 02, No. 3), and how far a slot is ahead of a start.
 use Prim.Native.Nat.{ℕ, _+_, _-_, _*_, _/_, _^_, min}
 use mathlib.Core.Bool.{cond}
 use lib.Dec.{leb}

@@ -134,8 +134,8 @@ fn either(which: bool, a: u64, b: u64) -> u64
     if which { a } else { b }
 }
 
-// Whether such a record reserves a slot that only one of its series can have: one division tells of both. Nothing here is a branch, as which of the
-// two it is, no processor can guess.
+// Whether such a record reserves a slot that only one of its series can have: one division tells of both. There is no branch by which of the two it
+// is, as no processor can guess that.
 fn reserves_apart(r: Rec, m1: u32, slot: u32, spacing: u32, into_further: u64) -> bool
     requires { ⌜ (0 < r .rate) × (spacing ≡ m1 / r .rate) × (r .length < spacing) × (r .superframes ≤ 3) ⌝ }
     requires { ⌜ («into_further» ≡ aheadOf (slot + 128) (furtherFrom m1 r)) × (128 - lifted (r .bo) ≤ «into_further») ⌝ }

@@ -392,8 +392,8 @@ fn over_by(lo: u64, over: u64, m1: u64) -> u64
     either(over <= lo, 1, 0) + either(over + m1 <= lo, 1, 0)
 }
 
-// Of so many superframes as are asked, none of a record's own or all, those that are left in a window: from the first that isn't over before it up to
-// the first that begins behind it. `over` is where the first of all is over. Where there is but one, none is left out.
+// Of a record's own superframes those that are left in a window: from the first that isn't over before it up to the first that begins behind it. All
+// are asked or none, and `over` is where the first of them is over. Where there is but one, none is left out.
 fn left_of(lo: u64, end: u64, from: u64, over: u64, m1: u64, superframes: u64, asked: u64) -> Bounds
     requires { ⌜ (from ≤ over) × (over ≤ 4398046511104) × (m1 ≤ 4294967295) × (asked ≤ superframes) ⌝ }
     ensures { λ b. ⌜ Between lo end from over m1 asked b ⌝ }
@@ -428,8 +428,8 @@ fn mark_left(out: &mut [u8], lo: u64, end: u64, r: Rec, spacing: u64, left: Supe
 }
 
 // Marks the blocks of a record's superframes, in a window whose slots have 128 added too. A record that can't reach it is left by one test of both
-// its series; of others those superframes are left out that are over before it or begin behind it. Which ones they are is
-// worked out without a branch, as it would often be guessed wrong.
+// its series; of others those superframes are left out that are over before it or begin behind it. There is no branch by which ones they are, as it
+// would often be guessed wrong.
 fn mark_superframes(out: &mut [u8], lo: u64, end: u64, m1: u32, r: Rec, spacing: u64)
     requires { ⌜ WindowFits lo end (now out) × (0 < r .rate) × (spacing ≡ m1 / r .rate) ⌝ }
     ensures { λ _. ⌜ MarkedWhere (end - lo) (markOf (r .far)) (λ i. heldLifted m1 r (lo + i)) (now (out .entry)) (now (out .exit)) ⌝ }
