@@ -1,6 +1,7 @@
-# make demo    a C host's day, with its tables and its tally, the listing of the sample bursts, and the sample day replayed
+# make demo    a C host's day, with its tables and its tally, the picture of a channel's next superframe, the listing of the sample bursts,
+#              and the sample day replayed
 # make test    everything that must hold, as .ci/run runs it; its last line is 'N passed, M failed'
-# make bench   the calls beside a plain Rust implementation, the search beside plain C too, the listing and the replay beside two programs each
+# make bench   the calls beside plain C and plain Rust, how many channels one core serves, the listing and the replay beside two programs each
 # make second  builds the second program of tests/second, which test and bench use
 # make clean   removes all that was built
 
@@ -14,9 +15,14 @@ SHELL := /bin/bash
 
 .PHONY: demo test bench clean second
 
-demo: target/host $(programs)
+demo: target/host target/draw $(programs)
 	@echo 'target/host (examples/host.c)'
 	@target/host
+	@echo
+	@echo 'target/draw target/superframe.svg (examples/draw.c)'
+	@target/draw target/superframe.svg
+	@echo
+	@echo 'The same as a picture for a browser: target/superframe.svg'
 	@echo
 	@echo 'samples/bursts, nine octets to a burst:'
 	@od -An -v -w9 -tx1 samples/bursts
@@ -42,6 +48,8 @@ test:
 bench: $(programs) second
 	@$(second) bench-calls
 	@echo
+	@$(second) bench-load
+	@echo
 	@$(second) bench-listing target/bin/listing $(peer)
 	@echo
 	@$(second) bench-replay target/bin/replay $(peer)
@@ -50,8 +58,8 @@ second: $(archive)
 	@. tests/x86-64 && cargo build --quiet --release --offline --manifest-path tests/second/Cargo.toml --target-dir target/second && \
 		mkdir -p target/bin && cp target/second/$$CARGO_BUILD_TARGET/release/{second,peer} target/bin
 
-target/host: examples/host.c include/gemthatch.h $(archive)
-	@. tests/x86-64 && gcc -O2 -Iinclude examples/host.c $(archive) -o $@
+target/host target/draw: target/%: examples/%.c include/gemthatch.h $(archive)
+	@. tests/x86-64 && gcc -O2 -Iinclude $< $(archive) -o $@
 
 # What is built is built only once it and all below it are proved, which takes some minutes.
 $(archive): $(proved)

@@ -3,8 +3,9 @@
  *
  *     gcc -Iinclude examples/host.c target/staticlib/libgemthatch.a -o host && ./host
  *
- * It says what it does line by line, shows its tables by a walk, keeps a log of what one channel's table was asked and replays it, and
- * keeps a tally of the day's calls, its own checks aside. Its exit status is not 0 where something came out otherwise than this file says.
+ * It says what it does line by line, shows its tables by a walk and slots by their maps, keeps a log of what one channel's table was asked
+ * and replays it, and keeps a tally of the day's calls, its own checks aside. Its exit status is not 0 where something came out otherwise
+ * than this file says. examples/draw.c draws a map.
  */
 #include <stdio.h>
 #include <string.h>
@@ -13,6 +14,7 @@
 
 #define RECORDS 4u
 #define OCTETS (RECORDS * GEMTHATCH_RECORD_OCTETS)
+#define M1 GEMTHATCH_M1_DEFAULT
 
 static const uint8_t rates[GEMTHATCH_RATES] = GEMTHATCH_TABLE_1_33;
 static const double limit = GEMTHATCH_LIMIT_DEFAULT;
@@ -70,12 +72,19 @@ static uint32_t told(const char *call, uint32_t answer, const char *counts)
     return answer;
 }
 
+/* A slot's state by the table; and by the map, which ends a superframe from now and costs no call. */
 static uint32_t told_slot(const gemthatch_channel *channel, uint32_t slot)
 {
     static const char *const states[] = { "free", "reusable", "taken" };
     const uint32_t answer = counted(gemthatch_channel_slot_state(channel, slot));
     const uint32_t refusal = gemthatch_refusal_of(answer);
-    printf("  slot %-29u %s\n", (unsigned)slot, refusal == GEMTHATCH_ACCEPTED ? states[answer] : gemthatch_refusal_text(refusal));
+    const uint32_t place = slot - channel->now;
+    printf("  slot %-29u %s", (unsigned)slot, refusal == GEMTHATCH_ACCEPTED ? states[answer] : gemthatch_refusal_text(refusal));
+    if (place < channel->map_octets) {
+        printf(", and %u in the map\n", channel->map[place]);
+        expect(channel->map[place] == answer, "the map says what the table says");
+    } else
+        printf(", behind the map\n");
     return answer;
 }
 
@@ -272,7 +281,7 @@ static uint32_t place_block(const char *name, const gemthatch_channel *channel, 
 
 int main(void)
 {
-    static uint8_t memories[5][OCTETS];
+    static uint8_t memories[5][OCTETS], maps[5][M1];
     /* 00 00 01 20 02 03 05 FE 12: destination 1, blocks of 5 slots, rate code 3, block start 5, block offset -2; and the same with block
        start 1. */
     static const uint8_t burst[GEMTHATCH_BURST_OCTETS] = { 0x00, 0x00, 0x01, 0x20, 0x02, 0x03, 0x05, 0xFE, 0x12 };
@@ -286,16 +295,22 @@ int main(void)
     uint32_t answer, refused_before, i;
 
     memset(memories, 0xAA, sizeof memories); /* what the worker had there before */
+    memset(maps, 0xAA, sizeof maps);
 
-    printf("Morning: the channels open, each with room for %u records\n", (unsigned)RECORDS);
-    (void)told("Alder, M1 4500", counted(gemthatch_channel_open(&alder, memories[0], OCTETS, GEMTHATCH_M1_DEFAULT)), NULL);
-    (void)told("Birch, M1 4500", counted(gemthatch_channel_open(&birch, memories[1], OCTETS, GEMTHATCH_M1_DEFAULT)), NULL);
-    answer = told("Cedar, M1 4510", counted(gemthatch_channel_open(&cedar, memories[2], OCTETS, 4510u)), NULL);
+    printf("Morning: the channels open, each with room for %u records, and with a map that has an octet for each slot of a superframe\n",
+           (unsigned)RECORDS);
+    (void)told("Alder, M1 4500", counted(gemthatch_channel_open(&alder, memories[0], OCTETS, maps[0], M1, M1)), NULL);
+    (void)told("Birch, M1 4500", counted(gemthatch_channel_open(&birch, memories[1], OCTETS, maps[1], M1, M1)), NULL);
+    answer = told("Cedar, M1 4510", counted(gemthatch_channel_open(&cedar, memories[2], OCTETS, maps[2], M1, 4510u)), NULL);
     expect_refused(answer, GEMTHATCH_REFUSED_FIGURE, "M1 goes by steps of 60");
-    (void)told("Cedar, M1 60", counted(gemthatch_channel_open(&cedar, memories[2], OCTETS, GEMTHATCH_M1_MIN)), NULL);
+    answer = told("Cedar, M1 60 with a map of 4500", counted(gemthatch_channel_open(&cedar, memories[2], OCTETS, maps[2], M1, 60u)), NULL);
+    expect_refused(answer, GEMTHATCH_REFUSED_MAP, "a map has M1 octets, no more");
+    expect(maps[2][0] == 0xAA, "and is untouched where it is refused");
+    (void)told("Cedar, M1 60 with one of 60", counted(gemthatch_channel_open(&cedar, memories[2], OCTETS, maps[2], 60u, 60u)), NULL);
     /* The twin sees Birch's day without the tenant, to hold Birch against at the end. */
-    (void)told("Birch's twin, M1 4500", counted(gemthatch_channel_open(&twin, memories[3], OCTETS, GEMTHATCH_M1_DEFAULT)), NULL);
+    (void)told("Birch's twin, M1 4500", counted(gemthatch_channel_open(&twin, memories[3], OCTETS, maps[3], M1, M1)), NULL);
     expect(all_zero(memories[0], 4u * OCTETS), "an opened table is all zero");
+    expect(all_zero(maps[0], M1) && all_zero(maps[1], M1) && all_zero(maps[2], 60u) && all_zero(maps[3], M1), "and so is its map");
     recorded = &birch;
 
     printf("\nTwo bursts, as they are read, and the second written again\n");
@@ -333,6 +348,7 @@ int main(void)
     printf("\nAlder: the visitor has slots 105..109, and so every 1125 slots on; after two superframes its blocks move back by 2\n");
     expect(told_slot(&alder, 104u) == GEMTHATCH_FREE, "no block has 104");
     expect(told_slot(&alder, 105u) == GEMTHATCH_TAKEN, "105 is the first block's");
+    expect(maps[0][0] == GEMTHATCH_FREE && maps[0][5] == GEMTHATCH_TAKEN, "the map begins at now, which is 100");
     expect(told_slot(&alder, 9103u) == GEMTHATCH_TAKEN, "9103 is the first one's that moved");
     expect(told_slot(&alder, 9108u) == GEMTHATCH_FREE, "which is over at 9107");
     answer = place_block("Alder", &alder, 105u, 111u, 2u, 4710u);
@@ -345,6 +361,7 @@ int main(void)
     show("Alder", &alder);
     expect(holds(gemthatch_channel_record_at(&alder, 0u), visitor, 105u, 2u, 1u), "the visitor's record is far");
     expect(told_slot(&alder, 105u) == GEMTHATCH_REUSABLE, "all who hold 105 are far");
+    expect(maps[0][5] == GEMTHATCH_REUSABLE, "which its map says too");
     answer = place_block("Alder", &alder, 105u, 111u, 2u, 4712u);
     expect(answer == 105u, "105 comes third, and 4712 mod 3 is 2");
 
@@ -362,6 +379,8 @@ int main(void)
     show("Cedar", &cedar);
     expect(gemthatch_channel_record_at(&cedar, 0u).record.first == 22u && gemthatch_channel_record_at(&cedar, 1u).record.first == 23u,
            "those at 22 and 23 moved up, in their order");
+    expect(told_slot(&cedar, 22u) == GEMTHATCH_TAKEN, "22 is now");
+    expect(maps[2][0] == GEMTHATCH_TAKEN && maps[2][1] == GEMTHATCH_TAKEN && all_zero(maps[2] + 2, 58u), "the map begins at the new now");
 
     printf("\nLater: the tenant reserves again, and time goes on\n");
     (void)told("Birch's clock, slot 5000", set_clock(&birch, 5000u), "records over");
@@ -378,10 +397,12 @@ int main(void)
     expect(holds(gemthatch_channel_record_at(&birch, 0u), tenant, 105u, 3u, 1u), "the tenant's record comes first, and is far");
     expect(holds(gemthatch_channel_record_at(&birch, 1u), visitor, 5005u, 3u, 0u), "then the visitor's, which is not far");
     expect(gemthatch_channel_record_at(&birch, 2u).handed == 0u, "and then no more");
+    expect(told_slot(&birch, 13603u) == GEMTHATCH_REUSABLE, "13603 is the tenant's alone, the first of its blocks that moved");
 
     printf("\nMonth's end: the tenant leaves Birch\n");
     answer = told("Birch: the tenant is wiped", wipe(&birch, tenant), "records removed");
     expect(answer == 1u, "its other one was over");
+    expect(told_slot(&birch, 13603u) == GEMTHATCH_FREE, "13603 is nobody's");
     show("Birch", &birch);
     show_octets(&birch);
     show("its twin, which never saw the tenant", &twin);
@@ -389,9 +410,16 @@ int main(void)
     expect(is_without(&birch, tenant), "no record is the tenant's");
     expect(birch.now == twin.now && birch.count == twin.count, "clock and count are those without the tenant");
     expect(memcmp(memories[1], memories[3], OCTETS) == 0, "the octets are those without the tenant");
+    expect(memcmp(maps[1], maps[3], M1) == 0, "and so are the map's");
+
+    printf("\nSomething else writes over an octet of Birch's map\n");
+    maps[1][1130] = 3u;
+    answer = place_block("Birch", &birch, 13002u, 13100u, 5u, 4710u);
+    expect_refused(answer, GEMTHATCH_REFUSED_MAP, "the map is not that of the table");
+    expect(maps[1][1130] == 3u && memcmp(memories[1], memories[3], OCTETS) == 0, "map and table are untouched");
 
     printf("\nNight: the log of Birch's day is replayed on another table\n");
-    (void)told("a table, M1 4500", counted(gemthatch_channel_open(&night, memories[4], OCTETS, GEMTHATCH_M1_DEFAULT)), NULL);
+    (void)told("a table, M1 4500", counted(gemthatch_channel_open(&night, memories[4], OCTETS, maps[4], M1, M1)), NULL);
     refused_before = day.refused;
     replay(&night);
     expect(logged == 10u && day.refused == refused_before + 1u, "one of its ten calls was refused, as by day");
@@ -399,6 +427,11 @@ int main(void)
     show("what it leaves", &night);
     expect(night.now == birch.now && night.count == birch.count, "clock and count are Birch's");
     expect(memcmp(memories[4], memories[1], OCTETS) == 0, "the octets are Birch's");
+    printf("  and Birch takes its map over\n");
+    memcpy(maps[1], maps[4], M1);
+    answer = place_block("Birch", &birch, 13002u, 13100u, 5u, 4710u);
+    expect(answer == 13002u, "it is served again, and 4710 mod 3 is 0");
+    expect(memcmp(maps[1], maps[3], M1) == 0, "its map is the twin's once more");
 
     printf("\nThe worker's list, lent once more\n");
     answer = counted(gemthatch_channel_search(&birch, 13000u, 13100u, 5u, GEMTHATCH_WANTED_MAX, scratch, sizeof scratch - 1u));
@@ -409,7 +442,7 @@ int main(void)
     expect(day.refused == called_for, "the calls refused are those that had to be");
     expect(day.accepted == calls - called_for, "and all others are accepted");
     if (surprises == 0)
-        printf("\nBirch, its twin and the replayed table are the same in every octet, and the scratch list is empty.\n");
+        printf("\nBirch, its twin and the replayed table are the same in every octet, their maps too, and the scratch list is empty.\n");
     else
         printf("\n%d things came out otherwise.\n", surprises);
     printf("The day's tally: %u calls accepted, %u refused (a burst that comes in is up to three calls, a walk counts as one)\n",

@@ -7,30 +7,32 @@
  *
  * WHAT IT DOES
  * A superframe block reservation is nine octets of a burst: read and write them. A channel's reservations stand in a table of records in
- * memory that you lend. A slot is free, reusable or taken, as the stored reservations say. A search lists where a block of slots may be
- * placed, and a pick chooses one. A station that leaves is wiped without trace. A channel's log is replayed, one log record after the other.
- * A walk hands out a table's records one by one, and a tally counts accepted and refused calls.
+ * memory that you lend. A slot is free, reusable or taken, as the stored reservations say; a map that you lend beside the table says it
+ * of every slot of the next superframe, and can be drawn at any time between two calls. A search lists where a block of slots may be
+ * placed, and a pick chooses one. A station that leaves is wiped without trace. A channel's log is replayed, one log record after the
+ * other. A walk hands out a table's records one by one, and a tally counts accepted and refused calls.
  *
  * WHAT EVERY CALL PROMISES
- * Every call takes any numbers and any octets, and ends. Bad input gets a numbered refusal, the first that applies in the order given with
- * the call. A refused call changes no octet of the table, and the state stays what it was (but for a refused opening, which empties it). A
- * search's list is wiped with zeros at every call, refused or not, and then holds the answer only. All of this is proved of the library's
- * code, for every input.
+ * Every call takes any numbers and any octets, and ends. Bad input gets a numbered refusal, the first that applies in the order given
+ * with the call. A refused call changes no octet of the table or of its map, and the state stays what it was (but for a refused opening,
+ * which empties it). After every accepted call the map is the one that the table as it then is gives. A search's list is wiped with zeros
+ * at every call, refused or not, and then holds the answer only. All of this is proved of the library's code, for every input.
  *
  * WHO OWNS WHAT
- * All memory is yours. The library allocates nothing, keeps no pointer after a call, and has no state of its own: what it knows is what you
- * hand it. Calls on different memories may run at the same time in different threads. Of calls that are given the same memory, those that
- * only look (slot state, search, record at) may run at the same time; any other must run alone. Counting changes the tally: calls that are
- * given the same tally must run one at a time.
+ * All memory is yours. The library allocates nothing, keeps no pointer after a call, and has no state of its own: what it knows is what
+ * you hand it. Calls on different memories may run at the same time in different threads. Of calls that are given the same memory and
+ * map, those that only look (slot state, search, record at) may run at the same time; any other must run alone. Nor is a map to be drawn
+ * from while a call other than those runs on it: half of it may be the old one, half the new one. Counting changes the tally: calls that
+ * are given the same tally must run one at a time.
  *
- * What a call is lent is a pointer and the number of octets behind it. No alignment is asked. NULL is allowed where that number is 0. A
- * search's list must not overlap the table's memory, nor must a log record. A tally is lent by its pointer alone: it must point to a tally,
- * aligned as any struct of C, and not be NULL. A channel, too, must not be NULL, and must have been through gemthatch_channel_open. The
- * place that gemthatch_list_slot is given must be below the number found. These, and that so many octets are really there, are the only
- * things that the library can't test for you.
+ * What a call is lent is a pointer and the number of octets behind it. No alignment is asked. NULL is allowed where that number is 0.
+ * What is lent to one call must not overlap: memory, map, and a search's list or a log record. A tally is lent by its pointer alone: it
+ * must point to a tally, aligned as any struct of C, and not be NULL. A channel, too, must not be NULL, and must have been through
+ * gemthatch_channel_open. The place that gemthatch_list_slot is given must be below the number found. These, and that so many octets are
+ * really there, are the only things that the library can't test for you.
  *
- * The table's memory and the state go together: hand back the memory as the last call left it, with the state that its answer gives.
- * `gemthatch_channel`, at the end of this file, does that for you.
+ * The table's memory, its map and the state go together: hand back memory and map as the last call left them, with the state that its
+ * answer gives. `gemthatch_channel`, at the end of this file, does that for you.
  *
  * Distances are compared in double precision, each operation rounded once to nearest: leave the processor's rounding mode as C starts it.
  */
@@ -58,6 +60,7 @@ extern "C" {
 #define GEMTHATCH_RECORD_OCTETS 16u         /* a record of the table */
 #define GEMTHATCH_RECORDS_MAX 2048u         /* records of a table, at least 1 */
 #define GEMTHATCH_MEMORY_MAX (GEMTHATCH_RECORDS_MAX * GEMTHATCH_RECORD_OCTETS)
+#define GEMTHATCH_MAP_MAX GEMTHATCH_M1_MAX  /* octets of a map; it has M1 of them, one to a slot */
 #define GEMTHATCH_ENTRY_OCTETS 24u          /* a log record */
 #define GEMTHATCH_LIST_SLOT_OCTETS 4u       /* a slot in a search's list */
 #define GEMTHATCH_WANTED_MAX 16u            /* starts that a search gives, at least 1 */
@@ -77,7 +80,7 @@ extern "C" {
 #define GEMTHATCH_MILES_MAX 4096.0          /* a range, or a part of an offset, beyond this is never far; also the highest reuse limit */
 #define GEMTHATCH_LIMIT_DEFAULT 150.0       /* the technical manual's default reuse limit, its Q2a */
 #define GEMTHATCH_TALLY_MAX 4294967295u     /* where each count of a tally stops */
-#define GEMTHATCH_SEARCH_STACK 17408u       /* octets of stack that a search needs at most */
+#define GEMTHATCH_STACK 36864u              /* octets of stack that a call needs at most */
 
 /* ---- answers and refusals ----------------------------------------------------------------------------------------------------------- */
 
@@ -111,6 +114,7 @@ enum gemthatch_refusal {
     GEMTHATCH_REFUSED_PARAMETER = 22,      /* parameter number not 1..3 */
     GEMTHATCH_REFUSED_ENTRY = 23,          /* a log record not 24 octets, its operation not 1..4, or what that doesn't use not 0 */
     GEMTHATCH_REFUSED_EARLY = 24,          /* the further superframe of blocks, which bo calls for, would begin before now */
+    GEMTHATCH_REFUSED_MAP = 25,            /* the map isn't M1 octets, or isn't that of the table as it stands; at open, its size alone */
     GEMTHATCH_REFUSED_DESTINATION = 34     /* an address with roff equal to bs, or no re-broadcast with roff not equal to bs */
 };
 
@@ -149,6 +153,7 @@ static inline const char *gemthatch_refusal_text(uint32_t refusal)
     case GEMTHATCH_REFUSED_PARAMETER: return "no such parameter";
     case GEMTHATCH_REFUSED_ENTRY: return "no log record";
     case GEMTHATCH_REFUSED_EARLY: return "further blocks before now";
+    case GEMTHATCH_REFUSED_MAP: return "map not M1 octets, or not that of the table";
     case GEMTHATCH_REFUSED_DESTINATION: return "destination does not go with roff and bs";
     default: return "no refusal of this library";
     }
@@ -225,9 +230,9 @@ GEMTHATCH_MUST_USE uint32_t gemthatch_parameter(uint32_t number, uint32_t figure
 /* ---- the table ---------------------------------------------------------------------------------------------------------------------- */
 
 /*
- * The memory is GEMTHATCH_RECORD_OCTETS for each record that it shall hold, 1 to GEMTHATCH_RECORDS_MAX. The state beside it is three
- * numbers: M1, now and count. Form the next state from an accepted answer as each call says; a refused call leaves memory and state as
- * they were (but for a refused opening, which empties the state).
+ * The memory is GEMTHATCH_RECORD_OCTETS for each record that it shall hold, 1 to GEMTHATCH_RECORDS_MAX. The map is M1 octets, so 4,500 for
+ * the usual M1. The state beside them is three numbers: M1, now and count. Form the next state from an accepted answer as each call says; a
+ * refused call leaves memory, map and state as they were (but for a refused opening, which empties the state).
  *
  * A record reserves, for k below superframes and j below rate, the `length` slots from first + k*M1 + j*(M1/rate), the division's
  * remainder dropped. Where its block offset bo isn't 0 it reserves one further superframe of blocks, the `length` slots from
@@ -235,22 +240,38 @@ GEMTHATCH_MUST_USE uint32_t gemthatch_parameter(uint32_t number, uint32_t figure
  * and where M1 is 60 or 120 before them too. A record is over when the last slot of all its blocks is before now.
  *
  * Every call on a table first tests it whole, and refuses it with 11 where it is not sound: memory of a right size, M1 fits, now at most
- * 1,000,000,000, count at most the capacity, every record's fields in their ranges, its three zeros 0, none of its blocks before slot 0, and
- * not over, all octets after the records 0.
+ * 1,000,000,000, count at most the capacity, every record's fields in their ranges, its three zeros 0, none of its blocks before slot 0,
+ * and not over, all octets after the records 0.
+ *
+ * The map has an octet for each slot from now to now + M1 - 1, the first for now: 0 free, 1 reusable, 2 taken (enum gemthatch_slot). It
+ * belongs to its table: a worker may share a search's list among channels, but not a map. Every call that takes it, but open, works it out
+ * afresh from the table, and refuses with 25 one that is not the same; so a map that was written over is found at the next call. After an
+ * accepted call it is the map of the next state: after a clock it begins at the new now. Of slots past 1,000,000,000, which slot state
+ * refuses, it says what they are by the same rule.
+ *
+ * No call mends a map. Where the table is sound, set each octet i to gemthatch_slot_state of slot now + i, as far as that goes; or replay
+ * the channel's log on a table opened anew. What wrote over the map may have written elsewhere too.
+ *
+ * Working the map out is most of what a call costs. With M1 4500 a call takes some tenths of a microsecond on a table of one record, one to
+ * three microseconds on 64 records, and ten to thirty on a full table, up to a hundred where every record has 60 blocks to a superframe.
+ * docs/BENCH.md has the figures, and says how many channels one processor core serves.
+ * A call needs at most GEMTHATCH_STACK octets of stack, which a thread with a small one has to have left.
  */
 
 /*
- * Opens a table: every octet 0. Next state: m1, 0, 0; where it is refused 0, 0, 0, and the memory is untouched.
- * Returns 0. Refused, in this order: 10 M1, 1 size of the memory.
+ * Opens a table: every octet of memory and map 0, whatever was there. Next state: m1, 0, 0; where it is refused 0, 0, 0, and memory and map
+ * are untouched.
+ * Returns 0. Refused, in this order: 10 M1, 1 size of the memory, 25 size of the map not m1.
  */
-GEMTHATCH_MUST_USE uint32_t gemthatch_open(uint8_t *memory, size_t octets, uint32_t m1);
+GEMTHATCH_MUST_USE uint32_t gemthatch_open(uint8_t *memory, size_t octets, uint8_t *map, size_t map_octets, uint32_t m1);
 
 /*
  * Sets now to a slot, which may be now again, and drops the records that are over then; the others keep their order, octets behind them
  * are 0. Next state: m1, slot, count less the number returned.
- * Returns how many were dropped. Refused, in this order: 11, 12, 13.
+ * Returns how many were dropped. Refused, in this order: 11, 25, 12, 13.
  */
-GEMTHATCH_MUST_USE uint32_t gemthatch_clock(uint8_t *memory, size_t octets, uint32_t m1, uint32_t now, uint32_t count, uint32_t slot);
+GEMTHATCH_MUST_USE uint32_t gemthatch_clock(uint8_t *memory, size_t octets, uint8_t *map, size_t map_octets, uint32_t m1, uint32_t now,
+                                            uint32_t count, uint32_t slot);
 
 /* How a distance is handed over. Any other kind is read as unknown. */
 enum gemthatch_kind {
@@ -261,30 +282,31 @@ enum gemthatch_kind {
 
 /*
  * Adds one record at the end: station, first slot now + bs, rate, superframes, length, block offset bo, and whether the station is far. A
- * range is far if limit <= a <= 4096; an offset if both parts lie in -4096..4096 and a*a + b*b >= limit*limit. Unknown and NaN are never far.
- * From a burst that was read: rate is gemthatch_rate of br, bs is bs, length is blg + 1, bo is bo. The station is the one that sent it, not
- * d; superframes is the host's to say, not bt.
+ * range is far if limit <= a <= 4096; an offset if both parts lie in -4096..4096 and a*a + b*b >= limit*limit. Unknown and NaN are never
+ * far. From a burst that was read: rate is gemthatch_rate of br, bs is bs, length is blg + 1, bo is bo. The station is the one that sent
+ * it, not d; superframes is the host's to say, not bt.
  * Next state: m1, now, count + 1.
- * Returns 0. Refused, in this order: 11, 8, 14, 15, 9 superframes or length, 5, 6, 24, 18, 16, 17.
+ * Returns 0. Refused, in this order: 11, 25, 8, 14, 15, 9 superframes or length, 5, 6, 24, 18, 16, 17.
  */
-GEMTHATCH_MUST_USE uint32_t gemthatch_reserve(uint8_t *memory, size_t octets, uint32_t m1, uint32_t now, uint32_t count, uint32_t station,
-                                              uint32_t rate, uint32_t superframes, uint32_t bs, uint32_t length, int32_t bo,
-                                              uint32_t kind, double a, double b, double limit);
+GEMTHATCH_MUST_USE uint32_t gemthatch_reserve(uint8_t *memory, size_t octets, uint8_t *map, size_t map_octets, uint32_t m1, uint32_t now,
+                                              uint32_t count, uint32_t station, uint32_t rate, uint32_t superframes, uint32_t bs,
+                                              uint32_t length, int32_t bo, uint32_t kind, double a, double b, double limit);
 
 /*
  * Says anew whether a station is far, in all its records. The state stays.
- * Returns how many records it has; 0 is no refusal. Refused, in this order: 11, 8, 18.
+ * Returns how many records it has; 0 is no refusal. Refused, in this order: 11, 25, 8, 18.
  */
-GEMTHATCH_MUST_USE uint32_t gemthatch_distance(uint8_t *memory, size_t octets, uint32_t m1, uint32_t now, uint32_t count, uint32_t station,
-                                               uint32_t kind, double a, double b, double limit);
+GEMTHATCH_MUST_USE uint32_t gemthatch_distance(uint8_t *memory, size_t octets, uint8_t *map, size_t map_octets, uint32_t m1, uint32_t now,
+                                               uint32_t count, uint32_t station, uint32_t kind, double a, double b, double limit);
 
 /*
  * Removes a station's records; the others keep their order, octets behind them are 0. Unless another station's reservation was refused
- * because the table was full (17) since the opening, memory and state are then what they would be had the station never called.
+ * because the table was full (17) since the opening, memory, map and state are then what they would be had the station never called.
  * Next state: m1, now, count less the number returned.
- * Returns how many were removed; 0 is no refusal. Refused, in this order: 11, 8.
+ * Returns how many were removed; 0 is no refusal. Refused, in this order: 11, 25, 8.
  */
-GEMTHATCH_MUST_USE uint32_t gemthatch_wipe(uint8_t *memory, size_t octets, uint32_t m1, uint32_t now, uint32_t count, uint32_t station);
+GEMTHATCH_MUST_USE uint32_t gemthatch_wipe(uint8_t *memory, size_t octets, uint8_t *map, size_t map_octets, uint32_t m1, uint32_t now,
+                                           uint32_t count, uint32_t station);
 
 /* ---- the log ------------------------------------------------------------------------------------------------------------------------ */
 
@@ -311,13 +333,13 @@ enum gemthatch_operation {
  *     20          bo, in two's complement
  *     21 to 23    0
  *
- * Fields that its operation does not use are 0. The memory is left, and the number returned, as by the call. The next state is formed as
- * the call says; the answer alone does not tell which call that is, so this takes the log record's operation, and of a clock its slot:
- * gemthatch_channel_replay_step does it.
+ * Fields that its operation does not use are 0. Memory and map are left, and the number returned, as by the call. The next state is
+ * formed as the call says; the answer alone does not tell which call that is, so this takes the log record's operation, and of a clock
+ * its slot: gemthatch_channel_replay_step does it.
  * Refused: 23, before anything else; then as the call is.
  */
-GEMTHATCH_MUST_USE uint32_t gemthatch_replay_step(uint8_t *memory, size_t octets, uint32_t m1, uint32_t now, uint32_t count,
-                                                  const uint8_t *entry, size_t entry_octets);
+GEMTHATCH_MUST_USE uint32_t gemthatch_replay_step(uint8_t *memory, size_t octets, uint8_t *map, size_t map_octets, uint32_t m1,
+                                                  uint32_t now, uint32_t count, const uint8_t *entry, size_t entry_octets);
 
 /* ---- slots -------------------------------------------------------------------------------------------------------------------------- */
 
@@ -329,27 +351,25 @@ enum gemthatch_slot {
 };
 
 /*
- * Returns the state of a slot from now on.
+ * Returns the state of a slot from now on, by the table alone: it takes no map, and reaches beyond one.
  * Refused, in this order: 11, 12, 13.
  */
 GEMTHATCH_MUST_USE uint32_t gemthatch_slot_state(const uint8_t *memory, size_t octets, uint32_t m1, uint32_t now, uint32_t count,
                                                  uint32_t slot);
 
 /*
- * Lists where a block of `length` slots may start in lo..hi: first the starts whose slots are all free, ascending, then those with no taken
- * slot, ascending; cut after `wanted`. Only the start has to lie in the range.
- * The list is octets, GEMTHATCH_LIST_SLOT_OCTETS to a slot, little-endian; octets left over at its end count for no place. All of it is
- * wiped at every call, refused or not. Slot 0 is a slot like any other: the number found says how many entries the list has.
- * To reserve a start that was found, bs is start - now, so only starts in now + 2 .. now + 255 can be reserved: choose lo and hi
- * accordingly.
- * The slots from lo on are worked out record by record: on a full table a search of a hundred starts takes some ten microseconds, up to
- * forty where every record has 60 blocks to a superframe, and one of a whole superframe up to two hundred. In superframes of less than
- * 1,920 slots, where such blocks may lie a few slots apart, it is up to a millisecond and a half.
- * A search needs at most GEMTHATCH_SEARCH_STACK octets of stack, which a thread with a small one has to have left.
- * Returns the number found, 1..wanted. Refused, in this order: 11, 19, 9 length, 20, 1 list shorter than wanted, 21 none found.
+ * Lists where a block of `length` slots may start in lo..hi: first the starts whose slots are all free, ascending, then those with no
+ * taken slot, ascending; cut after `wanted`. Only the start has to lie in the range. The list is octets, GEMTHATCH_LIST_SLOT_OCTETS to a
+ * slot, little-endian; octets left over at its end count for no place. All of it is wiped at every call, refused or not. Slot 0 is a slot
+ * like any other: the number found says how many entries the list has. To reserve a start that was found, bs is start - now, so only
+ * starts in now + 2 .. now + 255 can be reserved: choose lo and hi accordingly. Where the blocks lie wholly in the map's slots (hi +
+ * length - 1 is at most now + M1 - 1), the search goes along the map. Any other is worked out from the table, which takes as long again
+ * at most, and gives what a map that reached so far would give.
+ * Returns the number found, 1..wanted. Refused, in this order: 11, 25, 19, 9 length, 20, 1 list shorter than wanted, 21 none found.
  */
-GEMTHATCH_MUST_USE uint32_t gemthatch_search(const uint8_t *memory, size_t octets, uint32_t m1, uint32_t now, uint32_t count, uint32_t lo,
-                                             uint32_t hi, uint32_t length, uint32_t wanted, uint8_t *list, size_t list_octets);
+GEMTHATCH_MUST_USE uint32_t gemthatch_search(const uint8_t *memory, size_t octets, const uint8_t *map, size_t map_octets, uint32_t m1,
+                                             uint32_t now, uint32_t count, uint32_t lo, uint32_t hi, uint32_t length, uint32_t wanted,
+                                             uint8_t *list, size_t list_octets);
 
 /* The slot at a place, from 0, of a search's list. The place must be below the number found: this is not tested. */
 static inline uint32_t gemthatch_list_slot(const uint8_t *list, size_t place)
@@ -428,26 +448,31 @@ GEMTHATCH_MUST_USE static inline uint32_t gemthatch_counted(gemthatch_tally *tal
     return answer;
 }
 
-/* ---- a channel: a table with its state ---------------------------------------------------------------------------------------------- */
+/* ---- a channel: a table with its map and its state --------------------------------------------------------------------------------- */
 
 /*
  * The calls above with the state kept for you: each forms the next state from its answer, as proved in the library (its claims
- * `state-formed` and `entry-formed`). The memory stays yours, and must live as long as the channel is used.
+ * `state-formed` and `entry-formed`). Memory and map stay yours, and must live as long as the channel is used.
  */
 typedef struct gemthatch_channel {
     uint8_t *memory;
     size_t octets;
+    uint8_t *map;
+    size_t map_octets;
     uint32_t m1;
     uint32_t now;
     uint32_t count;
 } gemthatch_channel;
 
-/* Refused, the channel is empty: all its calls are refused with 11. */
-GEMTHATCH_MUST_USE static inline uint32_t gemthatch_channel_open(gemthatch_channel *channel, uint8_t *memory, size_t octets, uint32_t m1)
+/* The map is m1 octets. Refused, the channel is empty: all its calls are refused with 11. */
+GEMTHATCH_MUST_USE static inline uint32_t gemthatch_channel_open(gemthatch_channel *channel, uint8_t *memory, size_t octets, uint8_t *map,
+                                                                 size_t map_octets, uint32_t m1)
 {
-    const uint32_t answer = gemthatch_open(memory, octets, m1);
+    const uint32_t answer = gemthatch_open(memory, octets, map, map_octets, m1);
     channel->memory = memory;
     channel->octets = octets;
+    channel->map = map;
+    channel->map_octets = map_octets;
     channel->m1 = answer < GEMTHATCH_REFUSED ? m1 : 0u;
     channel->now = 0u;
     channel->count = 0u;
@@ -456,7 +481,8 @@ GEMTHATCH_MUST_USE static inline uint32_t gemthatch_channel_open(gemthatch_chann
 
 GEMTHATCH_MUST_USE static inline uint32_t gemthatch_channel_clock(gemthatch_channel *channel, uint32_t slot)
 {
-    const uint32_t answer = gemthatch_clock(channel->memory, channel->octets, channel->m1, channel->now, channel->count, slot);
+    const uint32_t answer = gemthatch_clock(channel->memory, channel->octets, channel->map, channel->map_octets, channel->m1, channel->now,
+                                            channel->count, slot);
     if (answer < GEMTHATCH_REFUSED) {
         channel->now = slot;
         channel->count -= answer;
@@ -468,8 +494,8 @@ GEMTHATCH_MUST_USE static inline uint32_t gemthatch_channel_reserve(gemthatch_ch
                                                                     uint32_t superframes, uint32_t bs, uint32_t length, int32_t bo,
                                                                     uint32_t kind, double a, double b, double limit)
 {
-    const uint32_t answer = gemthatch_reserve(channel->memory, channel->octets, channel->m1, channel->now, channel->count, station, rate,
-                                              superframes, bs, length, bo, kind, a, b, limit);
+    const uint32_t answer = gemthatch_reserve(channel->memory, channel->octets, channel->map, channel->map_octets, channel->m1,
+                                              channel->now, channel->count, station, rate, superframes, bs, length, bo, kind, a, b, limit);
     if (answer < GEMTHATCH_REFUSED)
         channel->count += 1u;
     return answer;
@@ -478,12 +504,14 @@ GEMTHATCH_MUST_USE static inline uint32_t gemthatch_channel_reserve(gemthatch_ch
 GEMTHATCH_MUST_USE static inline uint32_t gemthatch_channel_distance(gemthatch_channel *channel, uint32_t station, uint32_t kind, double a,
                                                                      double b, double limit)
 {
-    return gemthatch_distance(channel->memory, channel->octets, channel->m1, channel->now, channel->count, station, kind, a, b, limit);
+    return gemthatch_distance(channel->memory, channel->octets, channel->map, channel->map_octets, channel->m1, channel->now,
+                              channel->count, station, kind, a, b, limit);
 }
 
 GEMTHATCH_MUST_USE static inline uint32_t gemthatch_channel_wipe(gemthatch_channel *channel, uint32_t station)
 {
-    const uint32_t answer = gemthatch_wipe(channel->memory, channel->octets, channel->m1, channel->now, channel->count, station);
+    const uint32_t answer = gemthatch_wipe(channel->memory, channel->octets, channel->map, channel->map_octets, channel->m1, channel->now,
+                                           channel->count, station);
     if (answer < GEMTHATCH_REFUSED)
         channel->count -= answer;
     return answer;
@@ -492,8 +520,8 @@ GEMTHATCH_MUST_USE static inline uint32_t gemthatch_channel_wipe(gemthatch_chann
 GEMTHATCH_MUST_USE static inline uint32_t gemthatch_channel_replay_step(gemthatch_channel *channel, const uint8_t *entry,
                                                                         size_t entry_octets)
 {
-    const uint32_t answer = gemthatch_replay_step(channel->memory, channel->octets, channel->m1, channel->now, channel->count, entry,
-                                                  entry_octets);
+    const uint32_t answer = gemthatch_replay_step(channel->memory, channel->octets, channel->map, channel->map_octets, channel->m1,
+                                                  channel->now, channel->count, entry, entry_octets);
     if (answer < GEMTHATCH_REFUSED)
         switch (entry[0]) {
         case GEMTHATCH_OPERATION_CLOCK:
@@ -515,8 +543,8 @@ GEMTHATCH_MUST_USE static inline uint32_t gemthatch_channel_slot_state(const gem
 GEMTHATCH_MUST_USE static inline uint32_t gemthatch_channel_search(const gemthatch_channel *channel, uint32_t lo, uint32_t hi,
                                                                    uint32_t length, uint32_t wanted, uint8_t *list, size_t list_octets)
 {
-    return gemthatch_search(channel->memory, channel->octets, channel->m1, channel->now, channel->count, lo, hi, length, wanted, list,
-                            list_octets);
+    return gemthatch_search(channel->memory, channel->octets, channel->map, channel->map_octets, channel->m1, channel->now, channel->count,
+                            lo, hi, length, wanted, list, list_octets);
 }
 
 GEMTHATCH_MUST_USE static inline gemthatch_place gemthatch_channel_record_at(const gemthatch_channel *channel, uint32_t i)

@@ -1,5 +1,5 @@
-/* What the header says in numbers is what the archive does: both sides of each limit, each refusal by its name, the channel's state, the
-   structs' places. */
+/* What the header says in numbers is what the archive does: both sides of each limit, each refusal by its name, the channel's state, its
+   map, the structs' places. */
 #include <math.h>
 #include <stddef.h>
 #include <stdio.h>
@@ -21,12 +21,19 @@ static void check(int so, int line)
 #define REFUSES(call, name) check(gemthatch_refusal_of(call) == GEMTHATCH_REFUSED_##name, __LINE__)
 
 static uint8_t memory[GEMTHATCH_MEMORY_MAX + GEMTHATCH_RECORD_OCTETS];
+static uint8_t map[GEMTHATCH_MAP_MAX + 1u];
 static uint8_t list[GEMTHATCH_LIST_MAX];
 static gemthatch_channel channel;
 
+/* Opens the channel with a map as long as M1 asks for. */
+static uint32_t open_with(size_t octets, uint32_t m1)
+{
+    return gemthatch_channel_open(&channel, memory, octets, map, m1, m1);
+}
+
 static void open_channel(size_t records)
 {
-    IS(gemthatch_channel_open(&channel, memory, records * GEMTHATCH_RECORD_OCTETS, GEMTHATCH_M1_DEFAULT), 0u);
+    IS(open_with(records * GEMTHATCH_RECORD_OCTETS, GEMTHATCH_M1_DEFAULT), 0u);
 }
 
 /* A reserve that is accepted but for what is asked of it. */
@@ -144,11 +151,12 @@ static void tables(void)
 {
     const double limit = GEMTHATCH_LIMIT_DEFAULT;
     check(limit == 150.0, __LINE__);
-    REFUSES(gemthatch_channel_open(&channel, memory, sizeof memory, GEMTHATCH_M1_DEFAULT), SIZE);
+    REFUSES(open_with(sizeof memory, GEMTHATCH_M1_DEFAULT), SIZE);
     check(channel.m1 == 0u && channel.now == 0u && channel.count == 0u, __LINE__);
     REFUSES(gemthatch_channel_wipe(&channel, 0u), NOT_SOUND);
     open_channel(GEMTHATCH_RECORDS_MAX);
     check(channel.octets == GEMTHATCH_MEMORY_MAX && channel.m1 == GEMTHATCH_M1_DEFAULT, __LINE__);
+    check(channel.map == map && channel.map_octets == GEMTHATCH_M1_DEFAULT, __LINE__);
     open_channel(2u);
     REFUSES(reserve(GEMTHATCH_STATION_MAX + 1u, 1u, 1u, GEMTHATCH_BS_MIN, 1u, 0, limit), ADDRESS);
     REFUSES(reserve(0u, GEMTHATCH_RATE_MAX + 1u, 1u, GEMTHATCH_BS_MIN, 1u, 0, limit), RATE);
@@ -184,7 +192,7 @@ static void tables(void)
 static void offsets(void)
 {
     const double limit = GEMTHATCH_LIMIT_DEFAULT;
-    IS(gemthatch_channel_open(&channel, memory, 2u * GEMTHATCH_RECORD_OCTETS, GEMTHATCH_M1_MIN), 0u);
+    IS(open_with(2u * GEMTHATCH_RECORD_OCTETS, GEMTHATCH_M1_MIN), 0u);
     REFUSES(reserve(1u, 1u, 1u, GEMTHATCH_BS_MIN, 3u, -63, limit), EARLY);
     IS(reserve(1u, 1u, 1u, GEMTHATCH_BS_MIN, 3u, -62, limit), 0u);
     IS(gemthatch_channel_slot_state(&channel, 0u), (uint32_t)GEMTHATCH_TAKEN);
@@ -192,7 +200,7 @@ static void offsets(void)
     IS(gemthatch_channel_slot_state(&channel, 5u), (uint32_t)GEMTHATCH_FREE);
     IS(gemthatch_channel_clock(&channel, 4u), 0u);
     IS(gemthatch_channel_clock(&channel, 5u), 1u);
-    IS(gemthatch_channel_open(&channel, memory, 2u * GEMTHATCH_RECORD_OCTETS, GEMTHATCH_M1_DEFAULT), 0u);
+    open_channel(2u);
     IS(reserve(1u, 1u, 1u, GEMTHATCH_BS_MIN, 1u, GEMTHATCH_BO_MAX, limit), 0u);
     IS(reserve(1u, 1u, 1u, GEMTHATCH_BS_MIN, 1u, -GEMTHATCH_BO_MAX, limit), 0u);
     IS(gemthatch_channel_slot_state(&channel, 4375u), (uint32_t)GEMTHATCH_TAKEN);
@@ -277,6 +285,255 @@ static void log_records(void)
     REFUSES(step(entry_of(GEMTHATCH_OPERATION_WIPE, 0u, 7u, 0u, 0u, 1u)), ENTRY);
 }
 
+/* What a refused call must leave as it was: the memory, the map with the octet behind it, and the channel. */
+static uint8_t memory_kept[sizeof memory], map_kept[sizeof map];
+static gemthatch_channel channel_kept;
+
+static void keep(void)
+{
+    memcpy(memory_kept, memory, sizeof memory);
+    memcpy(map_kept, map, sizeof map);
+    channel_kept = channel;
+}
+
+static int is_kept(void)
+{
+    return memcmp(memory, memory_kept, sizeof memory) == 0 && memcmp(map, map_kept, sizeof map) == 0 && channel.m1 == channel_kept.m1 &&
+           channel.now == channel_kept.now && channel.count == channel_kept.count;
+}
+
+/* Every call that takes a map is refused so, and changes nothing but a search's list. Otherwise each would be refused with what comes
+   behind 25: the clock with 12 or 13, the search with 19, the others with 8. */
+static int all_refuse(uint32_t refusal)
+{
+    const uint32_t no_station = GEMTHATCH_STATION_MAX + 1u;
+    int so;
+    keep();
+    memset(list, 0xAA, sizeof list);
+    so = gemthatch_refusal_of(gemthatch_channel_search(&channel, 1u, 0u, 0u, 0u, list, sizeof list)) == refusal && list[0] == 0u &&
+         list[sizeof list - 1u] == 0u;
+    so = so && gemthatch_refusal_of(gemthatch_channel_clock(&channel, 0u)) == refusal;
+    so = so && gemthatch_refusal_of(gemthatch_channel_clock(&channel, UINT32_MAX)) == refusal;
+    so = so && gemthatch_refusal_of(reserve(no_station, 0u, 0u, 0u, 0u, -128, -1.0)) == refusal;
+    so = so && gemthatch_refusal_of(gemthatch_channel_distance(&channel, no_station, GEMTHATCH_KIND_RANGE, 0.0, 0.0, -1.0)) == refusal;
+    so = so && gemthatch_refusal_of(gemthatch_channel_wipe(&channel, no_station)) == refusal;
+    so = so && gemthatch_refusal_of(step(entry_of(GEMTHATCH_OPERATION_CLOCK, 0u, 0u, 0u, 0u, 0u))) == refusal;
+    so = so && gemthatch_refusal_of(step(entry_of(GEMTHATCH_OPERATION_RESERVE, 0u, no_station, 0u, 0u, 4097u))) == refusal;
+    so = so && gemthatch_refusal_of(step(entry_of(GEMTHATCH_OPERATION_DISTANCE, 0u, no_station, 0u, 0u, 4097u))) == refusal;
+    so = so && gemthatch_refusal_of(step(entry_of(GEMTHATCH_OPERATION_WIPE, 0u, no_station, 0u, 0u, 0u))) == refusal;
+    /* But 23 comes before both. */
+    so = so && gemthatch_refusal_of(step(entry_of(GEMTHATCH_OPERATION_WIPE, 0u, no_station, 0u, 0u, 1u))) == GEMTHATCH_REFUSED_ENTRY;
+    return so && is_kept();
+}
+
+/* The same where nothing else is wrong with the calls. */
+static int all_refuse_else_accepted(uint32_t refusal)
+{
+    int so;
+    keep();
+    so = gemthatch_refusal_of(gemthatch_channel_search(&channel, channel.now, channel.now, 1u, 1u, list, sizeof list)) == refusal;
+    so = so && gemthatch_refusal_of(gemthatch_channel_search(&channel, channel.now, channel.now + channel.m1 - 1u, 2u, 1u, list,
+                                                             sizeof list)) == refusal;
+    so = so && gemthatch_refusal_of(gemthatch_channel_clock(&channel, channel.now + 1u)) == refusal;
+    so = so && gemthatch_refusal_of(gemthatch_channel_clock(&channel, GEMTHATCH_SLOT_MAX)) == refusal;
+    so = so && gemthatch_refusal_of(reserve(99u, 1u, 1u, GEMTHATCH_BS_MIN, 1u, 0, 0.0)) == refusal;
+    so = so && gemthatch_refusal_of(gemthatch_channel_distance(&channel, 99u, GEMTHATCH_KIND_UNKNOWN, 0.0, 0.0, 0.0)) == refusal;
+    so = so && gemthatch_refusal_of(gemthatch_channel_wipe(&channel, 99u)) == refusal;
+    so = so && gemthatch_refusal_of(wipe_of(GEMTHATCH_ENTRY_OCTETS)) == refusal;
+    return so && is_kept();
+}
+
+/* A map of so many octets, which isn't M1, is refused by every call; slot state and walk take none. */
+static int size_refused(uint8_t *at, size_t octets)
+{
+    int so;
+    channel.map = at;
+    channel.map_octets = octets;
+    so = all_refuse(GEMTHATCH_REFUSED_MAP) && all_refuse_else_accepted(GEMTHATCH_REFUSED_MAP) &&
+         gemthatch_channel_slot_state(&channel, channel.now) < GEMTHATCH_REFUSED && gemthatch_channel_record_at(&channel, 0u).refusal == 0u;
+    channel.map = map;
+    channel.map_octets = channel.m1;
+    return so;
+}
+
+/* The map is as slot state gives it, slot by slot, up to the clock's limit, behind which that gives nothing; and the octet behind the map,
+   which open_at paints, is as it was. */
+static int is_fresh(void)
+{
+    uint32_t i;
+    for (i = 0; i < channel.m1 && channel.now + i <= GEMTHATCH_SLOT_MAX; i++)
+        if (gemthatch_channel_slot_state(&channel, channel.now + i) != map[i])
+            return 0;
+    return map[channel.m1] == 0xAA;
+}
+
+/* A channel opened with M1 at a slot, the octet behind its map painted. */
+static void open_at(uint32_t m1, uint32_t slot)
+{
+    IS(open_with(8u * GEMTHATCH_RECORD_OCTETS, m1), 0u);
+    map[m1] = 0xAA;
+    IS(gemthatch_channel_clock(&channel, slot), 0u);
+}
+
+/* Four stations, the second and the fourth far, whose blocks lie over each other in places: each leaves the map as slot state has it. */
+static void reserve_some(void)
+{
+    uint32_t i;
+    for (i = 0; i < 4u; i++) {
+        IS(gemthatch_channel_reserve(&channel, 1u + i, 3u + 4u * i, 1u + i % GEMTHATCH_SUPERFRAMES_MAX, GEMTHATCH_BS_MIN + 2u * i,
+                                     4u + 3u * i, 5 - 2 * (int32_t)i, GEMTHATCH_KIND_RANGE, i % 2u == 0u ? 0.0 : 200.0, 0.0,
+                                     GEMTHATCH_LIMIT_DEFAULT),
+           0u);
+        check(is_fresh(), __LINE__);
+    }
+}
+
+/* At open only the map's size counts, and it comes last. */
+static void maps_at_open(void)
+{
+    const size_t octets = 2u * GEMTHATCH_RECORD_OCTETS;
+    const uint32_t m1 = GEMTHATCH_M1_DEFAULT;
+    IS(GEMTHATCH_MAP_MAX, 15360u);
+    memset(memory, 0xAA, sizeof memory);
+    memset(map, 0xAA, sizeof map);
+    memcpy(memory_kept, memory, sizeof memory);
+    memcpy(map_kept, map, sizeof map);
+    REFUSES(gemthatch_channel_open(&channel, memory, octets - 1u, map, m1 - 1u, m1 - 1u), FIGURE);
+    REFUSES(gemthatch_channel_open(&channel, memory, octets - 1u, map, m1 - 1u, m1), SIZE);
+    REFUSES(gemthatch_channel_open(&channel, memory, octets, map, m1 - 1u, m1), MAP);
+    REFUSES(gemthatch_channel_open(&channel, memory, octets, map, m1 + 1u, m1), MAP);
+    REFUSES(gemthatch_channel_open(&channel, memory, octets, map, GEMTHATCH_MAP_MAX, m1), MAP);
+    REFUSES(gemthatch_channel_open(&channel, memory, octets, NULL, 0u, m1), MAP);
+    check(channel.m1 == 0u && channel.now == 0u && channel.count == 0u, __LINE__);
+    REFUSES(gemthatch_channel_clock(&channel, 0u), NOT_SOUND);
+    check(memcmp(memory, memory_kept, sizeof memory) == 0 && memcmp(map, map_kept, sizeof map) == 0, __LINE__);
+    REFUSES(gemthatch_channel_open(&channel, memory, octets, map, GEMTHATCH_MAP_MAX + 1u, GEMTHATCH_M1_MAX), MAP);
+    IS(gemthatch_channel_open(&channel, memory, octets, map, GEMTHATCH_MAP_MAX, GEMTHATCH_M1_MAX), 0u);
+    check(is_fresh() && map[0] == 0u && map[GEMTHATCH_MAP_MAX - 1u] == 0u, __LINE__);
+}
+
+/* Every octet of a map counts, and every wrong number in it. */
+static void maps_spoilt(void)
+{
+    uint32_t i, octet;
+    open_at(GEMTHATCH_M1_MIN, 7u);
+    reserve_some();
+    check(size_refused(map, GEMTHATCH_M1_MIN - 1u) && size_refused(map, GEMTHATCH_M1_MIN + 1u) && size_refused(NULL, 0u), __LINE__);
+    for (i = 0; i < GEMTHATCH_M1_MIN; i++) {
+        const uint8_t right = map[i];
+        for (octet = 0; octet < 256u; octet++)
+            if (octet != right) {
+                map[i] = (uint8_t)octet;
+                check(all_refuse(GEMTHATCH_REFUSED_MAP), __LINE__);
+            }
+        check(all_refuse_else_accepted(GEMTHATCH_REFUSED_MAP), __LINE__);
+        map[i] = right;
+    }
+    check(is_fresh(), __LINE__);
+    IS(gemthatch_channel_wipe(&channel, 1u), 1u);
+    /* A table that isn't sound is refused with 11, whatever its map is. */
+    memory[8u * GEMTHATCH_RECORD_OCTETS - 1u] = 1;
+    check(all_refuse(GEMTHATCH_REFUSED_NOT_SOUND), __LINE__);
+    map[0] = 3u;
+    check(all_refuse(GEMTHATCH_REFUSED_NOT_SOUND), __LINE__);
+    channel.map_octets = 0u;
+    check(all_refuse(GEMTHATCH_REFUSED_NOT_SOUND) && all_refuse_else_accepted(GEMTHATCH_REFUSED_NOT_SOUND), __LINE__);
+
+    open_at(GEMTHATCH_M1_DEFAULT, 7u);
+    reserve_some();
+    check(size_refused(map, GEMTHATCH_M1_DEFAULT - 1u) && size_refused(map, GEMTHATCH_M1_DEFAULT + 1u), __LINE__);
+    for (i = 0; i < GEMTHATCH_M1_DEFAULT; i++) {
+        map[i] ^= 1u;
+        REFUSES(gemthatch_channel_wipe(&channel, 99u), MAP);
+        map[i] ^= 1u;
+    }
+    /* Another fitting M1 than the map's. */
+    channel.m1 = GEMTHATCH_M1_DEFAULT - 60u;
+    check(all_refuse(GEMTHATCH_REFUSED_MAP), __LINE__);
+    channel.m1 = GEMTHATCH_M1_DEFAULT;
+    /* The map of another now. */
+    channel.now = 8u;
+    check(all_refuse(GEMTHATCH_REFUSED_MAP), __LINE__);
+    channel.now = 7u;
+    IS(gemthatch_channel_wipe(&channel, 99u), 0u);
+    /* One that was written over is right again once slot state has said each of its octets. */
+    memset(map, 0xAA, GEMTHATCH_M1_DEFAULT);
+    REFUSES(gemthatch_channel_wipe(&channel, 99u), MAP);
+    for (i = 0; i < GEMTHATCH_M1_DEFAULT; i++)
+        map[i] = (uint8_t)gemthatch_channel_slot_state(&channel, channel.now + i);
+    IS(gemthatch_channel_wipe(&channel, 99u), 0u);
+}
+
+/* The map goes with the table from call to call: its first octet is now's. */
+static void maps_kept(void)
+{
+    static const uint32_t steps[] = { 0, 1, 2, 59, 60, 61, 75, 1079, 1080, 1081, 4499, 4500, 4501, 9000, 15359, 15360, 15361, 46080 };
+    static const uint32_t m1s[] = { GEMTHATCH_M1_MIN, 1080u, GEMTHATCH_M1_DEFAULT, GEMTHATCH_M1_MAX };
+    uint32_t i, j;
+    open_at(GEMTHATCH_M1_DEFAULT, 100u);
+    IS(reserve(1u, 1u, 1u, GEMTHATCH_BS_MIN, 1u, 0, 0.0), 0u);
+    check(map[0] == GEMTHATCH_FREE && map[1] == GEMTHATCH_FREE && map[2] == GEMTHATCH_TAKEN && map[3] == GEMTHATCH_FREE, __LINE__);
+    IS(gemthatch_channel_clock(&channel, 102u), 0u);
+    check(map[0] == GEMTHATCH_TAKEN && map[1] == GEMTHATCH_FREE && map[2] == GEMTHATCH_FREE, __LINE__);
+    IS(gemthatch_channel_distance(&channel, 1u, GEMTHATCH_KIND_RANGE, 1.0, 0.0, 0.0), 1u);
+    check(map[0] == GEMTHATCH_REUSABLE && is_fresh(), __LINE__);
+    IS(gemthatch_channel_distance(&channel, 1u, GEMTHATCH_KIND_UNKNOWN, 0.0, 0.0, 0.0), 1u);
+    check(map[0] == GEMTHATCH_TAKEN && is_fresh(), __LINE__);
+    /* Refused for other reasons, the map stays. */
+    keep();
+    REFUSES(gemthatch_channel_clock(&channel, 101u), BEHIND);
+    REFUSES(gemthatch_channel_clock(&channel, GEMTHATCH_SLOT_MAX + 1u), LATE);
+    REFUSES(reserve(1u, 1u, 1u, GEMTHATCH_BS_MIN - 1u, 1u, 0, 0.0), BS);
+    REFUSES(reserve(1u, 1u, 1u, GEMTHATCH_BS_MIN, 1u, 0, -1.0), LIMIT);
+    REFUSES(gemthatch_channel_distance(&channel, 1u, GEMTHATCH_KIND_RANGE, 1.0, 0.0, -1.0), LIMIT);
+    REFUSES(gemthatch_channel_wipe(&channel, GEMTHATCH_STATION_MAX + 1u), ADDRESS);
+    check(is_kept(), __LINE__);
+    IS(gemthatch_channel_wipe(&channel, 1u), 1u);
+    check(map[0] == GEMTHATCH_FREE && is_fresh(), __LINE__);
+    for (j = 0; j < sizeof m1s / sizeof *m1s; j++)
+        for (i = 0; i < sizeof steps / sizeof *steps; i++) {
+            open_at(m1s[j], 1000u);
+            reserve_some();
+            check(gemthatch_channel_clock(&channel, 1000u + steps[i]) < GEMTHATCH_REFUSED && is_fresh(), __LINE__);
+            check(gemthatch_channel_distance(&channel, 4u, GEMTHATCH_KIND_UNKNOWN, 0.0, 0.0, 0.0) < GEMTHATCH_REFUSED, __LINE__);
+            check(is_fresh(), __LINE__);
+            check(gemthatch_channel_wipe(&channel, 3u) < GEMTHATCH_REFUSED && is_fresh(), __LINE__);
+            check(step(entry_of(GEMTHATCH_OPERATION_WIPE, 0u, 2u, 0u, 0u, 0u)) < GEMTHATCH_REFUSED && is_fresh(), __LINE__);
+        }
+}
+
+/* Past the clock's limit the map is what the same calls give anywhere else. */
+static void maps_past_the_limit(void)
+{
+    open_at(GEMTHATCH_M1_DEFAULT, 1000u);
+    reserve_some();
+    keep();
+    open_at(GEMTHATCH_M1_DEFAULT, GEMTHATCH_SLOT_MAX);
+    reserve_some();
+    check(memcmp(map, map_kept, GEMTHATCH_M1_DEFAULT + 1u) == 0, __LINE__);
+    REFUSES(gemthatch_channel_slot_state(&channel, GEMTHATCH_SLOT_MAX + 2u), LATE);
+    check(map[GEMTHATCH_BS_MIN] == GEMTHATCH_TAKEN, __LINE__);
+    check(gemthatch_channel_wipe(&channel, 1u) == 1u && map[GEMTHATCH_BS_MIN] == GEMTHATCH_FREE, __LINE__);
+}
+
+/* Searches along the map, and such as reach further, where the slot behind the map is taken. */
+static void searches_by_map(void)
+{
+    const uint32_t m1 = GEMTHATCH_M1_DEFAULT, last = 100u + GEMTHATCH_M1_DEFAULT - 1u;
+    open_at(m1, 100u);
+    IS(reserve(1u, 1u, 1u, GEMTHATCH_BS_MIN, 1u, -2, 0.0), 0u);
+    IS(gemthatch_channel_slot_state(&channel, last), (uint32_t)GEMTHATCH_FREE);
+    IS(gemthatch_channel_slot_state(&channel, last + 1u), (uint32_t)GEMTHATCH_TAKEN);
+    IS(gemthatch_channel_search(&channel, last, last, 1u, 1u, list, sizeof list), 1u);
+    REFUSES(gemthatch_channel_search(&channel, last, last, 2u, 1u, list, sizeof list), NONE);
+    REFUSES(gemthatch_channel_search(&channel, last + 1u, last + 1u, 1u, 1u, list, sizeof list), NONE);
+    IS(gemthatch_channel_search(&channel, last - 2u, last, 2u, 3u, list, sizeof list), 2u);
+    check(gemthatch_list_slot(list, 0u) == last - 2u && gemthatch_list_slot(list, 1u) == last - 1u, __LINE__);
+    IS(gemthatch_channel_search(&channel, last - 2u, last - 1u, 2u, 3u, list, sizeof list), 2u);
+    check(gemthatch_list_slot(list, 0u) == last - 2u && gemthatch_list_slot(list, 1u) == last - 1u, __LINE__);
+    IS(gemthatch_channel_search(&channel, last + 2u, last + 2u, 1u, 1u, list, sizeof list), 1u);
+}
+
 static void searches(void)
 {
     open_channel(1u);
@@ -342,7 +599,7 @@ static void walks(void)
     for (i = 0; i < 5u; i++)
         check(none_at(i, GEMTHATCH_REFUSED_NOT_SOUND), __LINE__);
     check(none_at(UINT32_MAX, GEMTHATCH_REFUSED_NOT_SOUND), __LINE__);
-    REFUSES(gemthatch_channel_open(&channel, memory, 0u, GEMTHATCH_M1_DEFAULT), SIZE);
+    REFUSES(open_with(0u, GEMTHATCH_M1_DEFAULT), SIZE);
     check(none_at(0u, GEMTHATCH_REFUSED_NOT_SOUND), __LINE__);
     open_channel(GEMTHATCH_RECORDS_MAX);
     for (i = 0; i < GEMTHATCH_RECORDS_MAX; i++)
@@ -383,7 +640,7 @@ static void tallies(void)
 
 static int is_refusal(uint32_t number)
 {
-    return number <= GEMTHATCH_REFUSED_EARLY || number == GEMTHATCH_REFUSED_DESTINATION;
+    return number <= GEMTHATCH_REFUSED_MAP || number == GEMTHATCH_REFUSED_DESTINATION;
 }
 
 int main(void)
@@ -395,6 +652,11 @@ int main(void)
     tables();
     offsets();
     log_records();
+    maps_at_open();
+    maps_spoilt();
+    maps_kept();
+    maps_past_the_limit();
+    searches_by_map();
     searches();
     walks();
     tallies();

@@ -4,13 +4,13 @@ use std::env;
 use std::path::Path;
 use std::process::Command;
 
-const PEER: &str = "peer/search.c";
+const PEER: &str = "peer/calls.c";
 
 /// As an object of its own, as nothing of an archive is inlined into the caller
 /// either. The linker that is named for another machine's programs is its gcc.
 fn compile_peer() {
     let folder = env::var("OUT_DIR").expect("cargo names a folder to build in");
-    let object = Path::new(&folder).join("search.o");
+    let object = Path::new(&folder).join("calls.o");
     let gcc = env::var("RUSTC_LINKER").unwrap_or_else(|_| "gcc".to_string());
     let done = Command::new(&gcc)
         .args(["-O2", "-Wall", "-Wextra", "-Werror", "-c", PEER, "-o"])

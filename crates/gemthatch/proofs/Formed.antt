@@ -11,13 +11,13 @@ use borrow.Author.Tests.{le-leb, lt-leb}
 use Rattle.octets.specs.Lists.{keep}
 use Rattle.octets.specs.Refusals.{firstOf, answer, outside}
 use Rattle.octets.proofs.Lists.{length-keep-not}
-use Rattle.octets.proofs.Refusals.{by-refusal, firstOf-zero, outside-false, answer-elim, answer-refused, answer-accepted, by-test}
+use Rattle.octets.proofs.Refusals.{by-refusal, firstOf-zero, outside-false, answer-elim, answer-refused, answer-accepted}
 use Rattle.codec.specs.declared.Lookup.{Lookup}
 use Rattle.codec.specs.Rates.{rateTests, refusedLookup}
 use Rattle.codec.proofs.Rates.{badList-entry}
 use Rattle.record.specs.declared.Rec.{Rec}
 use Rattle.distance.specs.Distances.{isFar}
-use Rattle.sound.specs.Sound.{Channel, records, lasts, sound}
+use Rattle.sound.specs.Sound.{Channel, records, lasts}
 use Rattle.sound.proofs.Sound.{SoundParts, sound-parts}
 use Rattle.table.specs.declared.State.{State}
 use Rattle.slots.specs.declared.Slot.{Slot}
@@ -25,19 +25,21 @@ use Rattle.slots.specs.declared.Slot.the-variants.{Free, Reusable, Taken}
 use Rattle.slots.specs.declared.SlotAnswer.{SlotAnswer}
 use Rattle.slots.specs.declared.SlotAnswer.the-variants.{Is, Refused}
 use Rattle.table.specs.Table.{Call, clock, reserve, distance, wipe, look, isLook, newRecord, farOctet, ownedBy, setFar, changed, reported}
-use Rattle.table.specs.Memory.{channel, stateOf, tableOf, channelOf, callRefusal, leaves, says, returned, openRefusal, openLeaves, openReturned}
+use Rattle.table.specs.Memory.{channel, stateOf, tableOf, channelOf}
 use Rattle.slots.specs.Slots.{slotAnswer, stateNumber, slotSaid}
-use Rattle.table.proofs.Calls.{callRefusal-unsound, refused-gives, accepted-gives}
 use Rattle.table.proofs.Memory.{length-kept}
 use Rattle.log.specs.declared.LoggedCall.{LoggedCall}
 use Rattle.log.specs.declared.LoggedCall.the-variants.{Clock, Reserve, SetDistance, Wipe, NoCall}
-use Rattle.log.specs.Entries.{logRecordOf, callIn, byCall, entrySays, entryLeaves, entryReturned}
+use Rattle.log.specs.Entries.{logRecordOf, callIn, byCall}
 use Rattle.log.proofs.Entries.{callIn-elim}
+use Rattle.slotmap.specs.Map.{Mapped, withMap, mapRefusal, mapLeaves, mapSays, mapReturned, openMapRefusal, openMapLeaves, openMapReturned, mapEntrySays, mapEntryLeaves, mapEntryReturned}
+use Rattle.slotmap.proofs.Given.{refused-gives-map}
 use Rattle.search.specs.declared.Picked.{Picked}
 use Rattle.search.specs.Search.{searched, picked}
 use Rattle.search.proofs.Answers.{found-fits}
 use Rattle.gemthatch.specs.OverC.{overC, callNumber, entryNumber}
 use Rattle.gemthatch.specs.Claims.{moved, formed, formedByEntry, StateFormed, EntryFormed, StateOpened, RefusalTold, ReportedSmall, EntrySmall, FoundSmall, SlotSmall, RateSmall, PickSmall}
+use Rattle.gemthatch.proofs.MapCalls.{accepted-fit, accepted-returned, look-leaves}
 use Rattle.gemthatch.proofs.Most.{returned-callNumber}
 
 -- ---- overC
@@ -61,11 +63,8 @@ refusal-told callRefusal number h =
 -- ---- numbers are small
 
 -- a call that is not refused was made on a sound table
-accepted-held : (m : Channel) (c : Call) → callRefusal m c ≡ 0 → SoundParts m
-accepted-held m c z =
-    by-test (sound m)
-    (λ h. sound-parts m h)
-    (λ h. let e : 11 ≡ 0 = callRefusal-unsound m c h ∙ z in absurd (omega arith))
+accepted-held : (x : Mapped) (c : Call) → mapRefusal x c ≡ 0 → SoundParts (x .channel)
+accepted-held x c z = sound-parts (x .channel) (accepted-fit x c z .0)
 
 -- and so reports no more than its records
 reported-most : (m : Channel) (c : Call) → isLook c ≡ false → SoundParts m → reported (tableOf m) c ≤ 2048
@@ -77,24 +76,25 @@ reported-most m (wipe s) h k = omega (arith, length-kept m k (ownedBy s), k .roo
 reported-most m (look f) h k = absurd (true≢false h)
 
 pub reported-small : ReportedSmall
-unfolding says
-reported-small m c h = answer-elim (reported (tableOf m) c) (λ _. 0) (λ n. n ≤ 2048) (callRefusal m c) (λ z. reported-most m c h (accepted-held m c z)) (λ _. zero-le)
+unfolding mapSays
+reported-small x c h =
+    answer-elim (reported (tableOf (x .channel)) c) (λ _. 0) (λ n. n ≤ 2048) (mapRefusal x c) (λ z. reported-most (x .channel) c h (accepted-held x c z)) (λ _. zero-le)
 
 -- whatever call is in a log record
-byCall-small : (m : Channel) (e : LoggedCall) → byCall e (says m) (record { refusal = 23; number = 0 }) .number ≤ 2048
-byCall-small m (Clock slot) = reported-small m (clock slot) refl
-byCall-small m (Reserve q) = reported-small m (reserve q) refl
-byCall-small m (SetDistance s d limit) = reported-small m (distance s d limit) refl
-byCall-small m (Wipe s) = reported-small m (wipe s) refl
-byCall-small m NoCall = zero-le
+byCall-small : (x : Mapped) (e : LoggedCall) → byCall e (mapSays x) (record { refusal = 23; number = 0 }) .number ≤ 2048
+byCall-small x (Clock slot) = reported-small x (clock slot) refl
+byCall-small x (Reserve q) = reported-small x (reserve q) refl
+byCall-small x (SetDistance s d limit) = reported-small x (distance s d limit) refl
+byCall-small x (Wipe s) = reported-small x (wipe s) refl
+byCall-small x NoCall = zero-le
 
 pub entry-small : EntrySmall
-unfolding entrySays
-entry-small m o = byCall-small m (callIn o)
+unfolding mapEntrySays
+entry-small x o = byCall-small x (callIn o)
 
 pub found-small : FoundSmall
 unfolding searched
-found-small m q places = found-fits m q places .1
+found-small x q places = found-fits x q places .1
 
 -- no slot's state has a number above 2
 stateNumber-small : (x : Slot) → stateNumber x ≤ 2
@@ -125,10 +125,14 @@ pick-small n r =
 
 -- ---- the state formed
 
-module _ (s : State) (b : List ℕ) where
+module _ (s : State) (b p : List ℕ) where
   -- the table that the call is made on
   abbrev given : Channel
   given = channel s b
+
+  -- and the map lent with it
+  abbrev x : Mapped
+  x = withMap s b p
 
   -- the state at a time, with so many records
   abbrev then : ℕ → ℕ → State
@@ -155,57 +159,57 @@ module _ (s : State) (b : List ℕ) where
   moved-written (look f) h k = absurd (true≢false h)
 
   -- by a call's one number, accepted or refused
-  formed-made : (c : Call) → isLook c ≡ false → formed s c (callNumber given c) ≡ returned given c .state
-  formed-made c h = by-refusal (callRefusal given c) accepted refused
+  formed-made : (c : Call) → isLook c ≡ false → formed s c (callNumber x c) ≡ mapReturned x c .state
+  formed-made c h = by-refusal (mapRefusal x c) accepted refused
     where
-      accepted : callRefusal given c ≡ 0 → formed s c (callNumber given c) ≡ returned given c .state
+      accepted : mapRefusal x c ≡ 0 → formed s c (callNumber x c) ≡ mapReturned x c .state
       accepted z =
-          let k = accepted-held given c z in
-          let x = reported (tableOf given) c in
-          let g = accepted-gives given c (sym z) h .result in
-          let e : callNumber given c ≡ x = sym (returned-callNumber _ given c g) ∙ overC-accepted x in
-          rw (e, lt-leb 2_000_000_000 x (omega (arith, reported-most given c h k)), ← g) (moved-written c h k)
+          let k = accepted-held x c z in
+          let n = reported (tableOf given) c in
+          let g = accepted-returned x c z h in
+          let e : callNumber x c ≡ n = sym (returned-callNumber _ x c g) ∙ overC-accepted n in
+          rw (e, lt-leb 2_000_000_000 n (omega (arith, reported-most given c h k)), ← g) (moved-written c h k)
 
-      refused : (callRefusal given c ≡ 0 → ⊥) → formed s c (callNumber given c) ≡ returned given c .state
+      refused : (mapRefusal x c ≡ 0 → ⊥) → formed s c (callNumber x c) ≡ mapReturned x c .state
       refused z =
-          let r = callRefusal given c in
-          let g = refused-gives given c r refl z .result in
-          let e : callNumber given c ≡ 2_000_000_000 + r = sym (returned-callNumber _ given c g) ∙ overC-refused r 0 z in
+          let r = mapRefusal x c in
+          let g = refused-gives-map x c r refl z .result in
+          let e : callNumber x c ≡ 2_000_000_000 + r = sym (returned-callNumber _ x c g) ∙ overC-refused r 0 z in
           rw (e, le-leb 2_000_000_000 (2_000_000_000 + r) (omega arith), ← g)
 
 pub state-formed : StateFormed
-unfolding returned leaves
-state-formed s b (clock slot) = formed-made s b (clock slot) refl
-state-formed s b (reserve q) = formed-made s b (reserve q) refl
-state-formed s b (distance station d limit) = formed-made s b (distance station d limit) refl
-state-formed s b (wipe station) = formed-made s b (wipe station) refl
-state-formed s b (look f) = go (leb 2_000_000_000 (callNumber (channel s b) (look f)))
+unfolding mapReturned
+state-formed s b p (clock slot) = formed-made s b p (clock slot) refl
+state-formed s b p (reserve q) = formed-made s b p (reserve q) refl
+state-formed s b p (distance station d limit) = formed-made s b p (distance station d limit) refl
+state-formed s b p (wipe station) = formed-made s b p (wipe station) refl
+state-formed s b p (look f) = go (leb 2_000_000_000 (callNumber (withMap s b p) (look f))) ∙ sym (ap stateOf (look-leaves (withMap s b p) f))
   where
     go : (t : Bool) → cond t s s ≡ s
     go true = refl
     go false = refl
 
 pub entry-formed : EntryFormed
-unfolding entryNumber entrySays entryReturned entryLeaves callNumber returned
-entry-formed s b o =
+unfolding entryNumber mapEntrySays mapEntryReturned mapEntryLeaves callNumber mapReturned
+entry-formed s b p o =
     callIn-elim Formed o (rw (overC-refused 23 0 (omega arith)))
-    (λ h. rw h (state-formed s b (clock (logRecordOf o .slot))))
-    (λ h q. rw h (state-formed s b (reserve q)))
-    (λ h station d limit. rw h (state-formed s b (distance station d limit)))
-    (λ h station. rw h (state-formed s b (wipe station)))
+    (λ h. rw h (state-formed s b p (clock (logRecordOf o .slot))))
+    (λ h q. rw h (state-formed s b p (reserve q)))
+    (λ h station d limit. rw h (state-formed s b p (distance station d limit)))
+    (λ h station. rw h (state-formed s b p (wipe station)))
   where
     -- what is claimed where a call is in the octets
     Formed : LoggedCall → Type 0
     Formed e =
-        let m = channel s b in
-        let a = byCall e (says m) (record { refusal = 23; number = 0 }) in
-        formedByEntry s o (overC (a .refusal) (a .number)) ≡ stateOf (byCall e (leaves m) m)
+        let x = withMap s b p in
+        let a = byCall e (mapSays x) (record { refusal = 23; number = 0 }) in
+        formedByEntry s o (overC (a .refusal) (a .number)) ≡ stateOf (byCall e (mapLeaves x) x .channel)
 
 pub state-opened : StateOpened
-unfolding openReturned openLeaves
-state-opened m1 b =
-    by-refusal (openRefusal m1 b)
-    (λ z. rw (z, overC-accepted 0) (ap stateOf (answer-accepted _ _ {m = 0} refl)))
+unfolding openMapReturned openMapLeaves
+state-opened m1 b p =
+    by-refusal (openMapRefusal m1 b p)
+    (λ z. rw (z, overC-accepted 0) (ap (λ (y : Mapped). stateOf (y .channel)) (answer-accepted _ _ {m = 0} refl)))
     (λ z.
-    rw (overC-refused (openRefusal m1 b) 0 z, le-leb 2_000_000_000 (2_000_000_000 + openRefusal m1 b) (omega arith))
-    (ap stateOf (answer-refused _ _ {n = openRefusal m1 b} refl z)))
+    rw (overC-refused (openMapRefusal m1 b p) 0 z, le-leb 2_000_000_000 (2_000_000_000 + openMapRefusal m1 b p) (omega arith))
+    (ap (λ (y : Mapped). stateOf (y .channel)) (answer-refused _ _ {n = openMapRefusal m1 b p} refl z)))

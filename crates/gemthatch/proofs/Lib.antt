@@ -1,4 +1,5 @@
 pub mod Blocks
+pub mod MapCalls
 pub mod Most
 pub mod Put
 pub mod Places

@@ -1,10 +1,11 @@
--- No refusal is above the largest, so each fits behind 2,000,000,000; and what a method returned, as one number. Assumes nothing.
+-- No refusal is above the largest, so each fits behind 2,000,000,000; and what a call returned, as one number. Assumes nothing.
 use Prim.Native.Nat.{ℕ, _%_, _≤_}
 use native.Mathlib.Omega.{arith}
 use mathlib.Core.Path.{_≡_, refl, ap}
 use mathlib.Core.Bool.{false, not, true≢false}
-use mathlib.Core.List.{List, [], _∷_}
-use lib.ListN.{getD}
+use mathlib.Core.List.{List, [], _∷_, _++_}
+use lib.Dec.{eqb}
+use lib.ListN.{length as len, getD}
 use Rattle.octets.specs.Refusals.{firstOf, outside}
 use Rattle.octets.proofs.Refusals.{firstOf-most, answer-says}
 use Rattle.codec.specs.declared.Lookup.{Lookup}
@@ -15,11 +16,12 @@ use Rattle.slots.specs.declared.SlotAnswer.{SlotAnswer}
 use Rattle.slots.specs.declared.SlotAnswer.the-variants.{Is, Refused}
 use Rattle.table.specs.Table.{Call, clock, reserve, distance, wipe, look, isLook, callTests, timeTests}
 use Rattle.table.specs.declared.Answer.{Answer}
-use Rattle.table.specs.Memory.{tableOf, callRefusal, says, returned, openRefusal}
+use Rattle.table.specs.Memory.{tableOf}
 use Rattle.slots.specs.Slots.{slotState, slotRefusal, slotAnswer, slotSaid}
 use Rattle.log.specs.declared.LoggedCall.{LoggedCall}
 use Rattle.log.specs.declared.LoggedCall.the-variants.{Clock, Reserve, SetDistance, Wipe, NoCall}
-use Rattle.log.specs.Entries.{byCall, callIn, entrySays, entryReturned}
+use Rattle.log.specs.Entries.{byCall, callIn}
+use Rattle.slotmap.specs.Map.{Mapped, mapTests, mapRefusal, mapSays, mapReturned, openMapRefusal, mapEntrySays, mapEntryReturned}
 use Rattle.search.specs.declared.Query.{Query}
 use Rattle.search.specs.declared.Picked.{Picked}
 use Rattle.search.specs.Search as Search
@@ -28,47 +30,47 @@ use Rattle.gemthatch.specs.OverC.{largestRefusal, overC, callNumber, ent
 -- ---- the table
 
 -- the tests of each call have no larger number
-says-most : (m : Channel) (c : Call) → isLook c ≡ false → says m c .refusal ≤ largestRefusal
-unfolding says callRefusal
-says-most m (clock slot) h = firstOf-most largestRefusal ((11, not (sound m)) ∷ callTests (tableOf m) (clock slot)) refl
-says-most m (reserve q) h = firstOf-most largestRefusal ((11, not (sound m)) ∷ callTests (tableOf m) (reserve q)) refl
-says-most m (distance s d limit) h = firstOf-most largestRefusal ((11, not (sound m)) ∷ callTests (tableOf m) (distance s d limit)) refl
-says-most m (wipe s) h = firstOf-most largestRefusal ((11, not (sound m)) ∷ callTests (tableOf m) (wipe s)) refl
-says-most m (look f) h = absurd (true≢false h)
+says-most : (x : Mapped) (c : Call) → isLook c ≡ false → mapSays x c .refusal ≤ largestRefusal
+unfolding mapSays mapRefusal
+says-most x (clock slot) h = firstOf-most largestRefusal (mapTests x ++ callTests (tableOf (x .channel)) (clock slot)) refl
+says-most x (reserve q) h = firstOf-most largestRefusal (mapTests x ++ callTests (tableOf (x .channel)) (reserve q)) refl
+says-most x (distance s d limit) h = firstOf-most largestRefusal (mapTests x ++ callTests (tableOf (x .channel)) (distance s d limit)) refl
+says-most x (wipe s) h = firstOf-most largestRefusal (mapTests x ++ callTests (tableOf (x .channel)) (wipe s)) refl
+says-most x (look f) h = absurd (true≢false h)
 
--- what a method returned for a call
-module _ (a : Answer) (m : Channel) (c : Call) (e : a ≡ returned m c) where
+-- what a call returned
+module _ (a : Answer) (x : Mapped) (c : Call) (e : a ≡ mapReturned x c) where
   pub returned-most : isLook c ≡ false → a .refusal ≤ largestRefusal
-  unfolding returned
-  returned-most h = rw e (says-most m c h)
+  unfolding mapReturned
+  returned-most h = rw e (says-most x c h)
 
   -- as one number
-  pub returned-callNumber : overC (a .refusal) (a .number) ≡ callNumber m c
-  unfolding returned callNumber
-  returned-callNumber = ap (λ (x : Answer). overC (x .refusal) (x .number)) e
+  pub returned-callNumber : overC (a .refusal) (a .number) ≡ callNumber x c
+  unfolding mapReturned callNumber
+  returned-callNumber = ap (λ (y : Answer). overC (y .refusal) (y .number)) e
 
 -- what an entry asks for has no larger number, nor has 23
-byCall-most : (m : Channel) (e : LoggedCall) → byCall e (says m) (record { refusal = 23; number = 0 }) .refusal ≤ largestRefusal
-byCall-most m (Clock slot) = says-most m (clock slot) refl
-byCall-most m (Reserve q) = says-most m (reserve q) refl
-byCall-most m (SetDistance s d limit) = says-most m (distance s d limit) refl
-byCall-most m (Wipe s) = says-most m (wipe s) refl
-byCall-most m NoCall = omega arith
+byCall-most : (x : Mapped) (e : LoggedCall) → byCall e (mapSays x) (record { refusal = 23; number = 0 }) .refusal ≤ largestRefusal
+byCall-most x (Clock slot) = says-most x (clock slot) refl
+byCall-most x (Reserve q) = says-most x (reserve q) refl
+byCall-most x (SetDistance s d limit) = says-most x (distance s d limit) refl
+byCall-most x (Wipe s) = says-most x (wipe s) refl
+byCall-most x NoCall = omega arith
 
 -- what the step of a log record returned
-module _ (a : Answer) (m : Channel) (o : List ℕ) (e : a ≡ entryReturned m o) where
+module _ (a : Answer) (x : Mapped) (o : List ℕ) (e : a ≡ mapEntryReturned x o) where
   pub entry-most : a .refusal ≤ largestRefusal
-  unfolding entryReturned entrySays
-  entry-most = rw e (byCall-most m (callIn o))
+  unfolding mapEntryReturned mapEntrySays
+  entry-most = rw e (byCall-most x (callIn o))
 
   -- as one number
-  pub returned-entryNumber : overC (a .refusal) (a .number) ≡ entryNumber m o
-  unfolding entryReturned entryNumber
-  returned-entryNumber = ap (λ (x : Answer). overC (x .refusal) (x .number)) e
+  pub returned-entryNumber : overC (a .refusal) (a .number) ≡ entryNumber x o
+  unfolding mapEntryReturned entryNumber
+  returned-entryNumber = ap (λ (y : Answer). overC (y .refusal) (y .number)) e
 
-pub open-most : (m1 : ℕ) (b : List ℕ) → openRefusal m1 b ≤ largestRefusal
-unfolding openRefusal
-open-most m1 b = firstOf-most largestRefusal ((10, not (fits m1Row m1)) ∷ (1, not (sizeFits b)) ∷ []) refl
+pub open-most : (m1 : ℕ) (b p : List ℕ) → openMapRefusal m1 b p ≤ largestRefusal
+unfolding openMapRefusal
+open-most m1 b p = firstOf-most largestRefusal ((10, not (fits m1Row m1)) ∷ (1, not (sizeFits b)) ∷ (25, not (eqb (len p) m1)) ∷ []) refl
 
 -- ---- slots
 
@@ -78,9 +80,9 @@ slot-most m slot =
     let e = answer-says (Is (slotState (m .m1) (records m) slot)) Refused (λ (x : SlotAnswer). slotSaid x .refusal) refl (λ n. refl) (slotRefusal m slot) in
     rw e (firstOf-most largestRefusal ((11, not (sound m)) ∷ timeTests (tableOf m) slot) refl)
 
-pub search-most : (m : Channel) (q : Query) (places : ℕ) → Search.searched m q places .refusal ≤ largestRefusal
+pub search-most : (x : Mapped) (q : Query) (places : ℕ) → Search.searched x q places .refusal ≤ largestRefusal
 unfolding Search.searched Search.searchRefusal
-search-most m q places = firstOf-most largestRefusal ((11, not (sound m)) ∷ Search.searchTests (tableOf m) q places) refl
+search-most x q places = firstOf-most largestRefusal (mapTests x ++ Search.searchTests (tableOf (x .channel)) q places) refl
 
 pub pick-most : (n r : ℕ) → Search.picked n r .refusal ≤ largestRefusal
 unfolding Search.picked

@@ -9,9 +9,9 @@ use Rattle.codec.specs.Rates.{rateLookup}
 use Rattle.sound.specs.Sound.{Channel}
 use Rattle.table.specs.declared.State.{State}
 use Rattle.table.specs.Table.{Call, clock, reserve, distance, wipe, look, isLook}
-use Rattle.table.specs.Memory.{channel, says, returned, openRefusal, openReturned}
 use Rattle.slots.specs.Slots.{slotAnswer, slotSaid}
-use Rattle.log.specs.Entries.{logRecordOf, entrySays, entryReturned}
+use Rattle.log.specs.Entries.{logRecordOf}
+use Rattle.slotmap.specs.Map.{Mapped, withMap, mapSays, mapReturned, openMapRefusal, openMapReturned, mapEntrySays, mapEntryReturned}
 use Rattle.search.specs.declared.Query.{Query}
 use Rattle.search.specs.Search.{searched, picked}
 use Rattle.gemthatch.specs.OverC.{hostBlock, blockFrom, overC, callNumber, entryNumber}
@@ -59,15 +59,15 @@ BlockHandedBack = (b : Block) → blockFrom (hostBlock b) ≡ b
 
 -- the state that the host forms from an answer is the state that the method hands back
 abbrev pub StateFormed : Type 0
-StateFormed = (s : State) (b : List ℕ) (c : Call) → formed s c (callNumber (channel s b) c) ≡ returned (channel s b) c .state
+StateFormed = (s : State) (b p : List ℕ) (c : Call) → formed s c (callNumber (withMap s b p) c) ≡ mapReturned (withMap s b p) c .state
 
 -- and so it is after the step of a log record
 abbrev pub EntryFormed : Type 0
-EntryFormed = (s : State) (b o : List ℕ) → formedByEntry s o (entryNumber (channel s b) o) ≡ entryReturned (channel s b) o .state
+EntryFormed = (s : State) (b p o : List ℕ) → formedByEntry s o (entryNumber (withMap s b p) o) ≡ mapEntryReturned (withMap s b p) o .state
 
 -- and after an opening
 abbrev pub StateOpened : Type 0
-StateOpened = (m1 : ℕ) (b : List ℕ) → formedByOpen m1 (overC (openRefusal m1 b) 0) ≡ openReturned m1 b .state
+StateOpened = (m1 : ℕ) (b p : List ℕ) → formedByOpen m1 (overC (openMapRefusal m1 b p) 0) ≡ openMapReturned m1 b p .state
 
 -- a number below 2,000,000,000 is never taken for a refusal, and every refusal is told
 abbrev pub RefusalTold : Type 0
@@ -75,15 +75,15 @@ RefusalTold = (refusal number : ℕ) → number < 2_000_000_000 → refusalIn (o
 
 -- a clock, reserve, distance or wipe reports at most the 2,048 records of a table
 abbrev pub ReportedSmall : Type 0
-ReportedSmall = (m : Channel) (c : Call) → isLook c ≡ false → says m c .number ≤ 2048
+ReportedSmall = (x : Mapped) (c : Call) → isLook c ≡ false → mapSays x c .number ≤ 2048
 
 -- so does a log record
 abbrev pub EntrySmall : Type 0
-EntrySmall = (m : Channel) (o : List ℕ) → entrySays m o .number ≤ 2048
+EntrySmall = (x : Mapped) (o : List ℕ) → mapEntrySays x o .number ≤ 2048
 
 -- a search finds at most 16 starts
 abbrev pub FoundSmall : Type 0
-FoundSmall = (m : Channel) (q : Query) (places : ℕ) → searched m q places .number ≤ 16
+FoundSmall = (x : Mapped) (q : Query) (places : ℕ) → searched x q places .number ≤ 16
 
 -- a slot's state is at most 2
 abbrev pub SlotSmall : Type 0

@@ -17,9 +17,9 @@ use Rattle.record.specs.Record.{blank}
 use Rattle.sound.specs.Sound.{Channel}
 use Rattle.table.specs.declared.Request.{Request}
 use Rattle.table.specs.Table.{Call}
-use Rattle.table.specs.Memory.{channel, says}
+use Rattle.table.specs.Memory.{channel}
 use Rattle.slots.specs.Slots.{slotAnswer, slotSaid}
-use Rattle.log.specs.Entries.{entrySays}
+use Rattle.slotmap.specs.Map.{Mapped, withMap, mapSays, mapEntrySays}
 use Rattle.walk.specs.declared.Handed.{Handed}
 use Rattle.walk.specs.declared.Handed.the-variants.{One, NoMore}
 use Rattle.walk.specs.Walk.{recordAt}
@@ -97,6 +97,10 @@ blockFrom h =
 abbrev pub lent : ℕ → ℕ → ℕ → List ℕ → Channel
 lent m1 now count b = channel (record { m1 = m1; now = now; count = count }) b
 
+-- and the map beside them
+abbrev pub lentMap : ℕ → ℕ → ℕ → List ℕ → List ℕ → Mapped
+lentMap m1 now count b p = withMap (record { m1 = m1; now = now; count = count }) b p
+
 -- what a reserve asks for, its distance as a kind and two numbers
 abbrev pub request : ℕ → ℕ → ℕ → ℕ → ℕ → ℤ → ℕ → Float → Float → Float → Request
 request station rate superframes bs length bo kind a b limit =
@@ -118,20 +122,20 @@ query lo hi length wanted = record { lo = lo; hi = hi; length = length; wanted =
 -- ---- what it returns
 
 -- clock, reserve, distance and wipe
-unfoldable pub callNumber : Channel → Call → ℕ
-callNumber m c = overC (says m c .refusal) (says m c .number)
+unfoldable pub callNumber : Mapped → Call → ℕ
+callNumber x c = overC (mapSays x c .refusal) (mapSays x c .number)
 
 -- the step of a log record
-unfoldable pub entryNumber : Channel → List ℕ → ℕ
-entryNumber m o = overC (entrySays m o .refusal) (entrySays m o .number)
+unfoldable pub entryNumber : Mapped → List ℕ → ℕ
+entryNumber x o = overC (mapEntrySays x o .refusal) (mapEntrySays x o .number)
 
 -- the slot state: 0 free, 1 reusable, 2 taken
 unfoldable pub slotNumber : Channel → ℕ → ℕ
 slotNumber m slot = overC (slotSaid (slotAnswer m slot) .refusal) (slotSaid (slotAnswer m slot) .number)
 
 -- the search, with a list of so many octets: its length is their number over four
-unfoldable pub searchNumber : Channel → Query → ℕ → ℕ
-searchNumber m q octets = overC (searched m q (octets / 4) .refusal) (searched m q (octets / 4) .number)
+unfoldable pub searchNumber : Mapped → Query → ℕ → ℕ
+searchNumber x q octets = overC (searched x q (octets / 4) .refusal) (searched x q (octets / 4) .number)
 
 -- ---- the search's list
 
@@ -141,8 +145,8 @@ inOctets [] = []
 inOctets (n ∷ ns) = little 4 n ++ inOctets ns
 
 -- the list afterwards: the starts found, and all the rest is 0
-unfoldable pub searchList : Channel → Query → ℕ → List ℕ
-searchList m q octets = holdsOnly octets (inOctets (found m q (octets / 4)))
+unfoldable pub searchList : Mapped → Query → ℕ → List ℕ
+searchList x q octets = holdsOnly octets (inOctets (found x q (octets / 4)))
 
 -- ---- the walk
 

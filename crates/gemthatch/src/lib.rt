@@ -26,11 +26,10 @@ ghost use Rattle.codec.specs.Parameters.{parameterTests};
 ghost use Rattle.tally.specs.Calls.{counted};
 ghost use Rattle.distance.specs.Distances.{distanceOf};
 ghost use Rattle.table.specs.Table.{clock, reserve, distance, wipe};
-ghost use Rattle.table.specs.Memory.{channel, leaves, openRefusal, openLeaves};
 ghost use Rattle.slots.specs.Slots.{stateNumber};
-ghost use Rattle.log.specs.Entries.{entryLeaves};
+ghost use Rattle.slotmap.specs.Map.{withMap, mapLeaves, openMapRefusal, openMapLeaves, mapEntryLeaves};
 ghost use Rattle.search.specs.Search.{found, searched, picked};
-ghost use Rattle.gemthatch.specs.OverC.{largestRefusal, overC, hostBlock, hostReading, destinationFrom, blockFrom, lent, request, query, callNumber, entryNumber, slotNumber, searchNumber, inOctets, searchList, placeAt};
+ghost use Rattle.gemthatch.specs.OverC.{largestRefusal, overC, hostBlock, hostReading, destinationFrom, blockFrom, lent, lentMap, request, query, callNumber, entryNumber, slotNumber, searchNumber, inOctets, searchList, placeAt};
 ghost use Rattle.gemthatch.specs.Claims.{Claims};
 
 // The fields of a reservation as a C host has them: the destination's kind, 0 an address and 1 no re-broadcast, the address, the three
@@ -104,12 +103,19 @@ fn put_numbers(list: &mut [u8], numbers: &[u32], n: usize)
 
 // A search with a list of so many places. It never fills more than 16, and with fewer only the refusal 1 comes in before the slots are
 // looked at: so all 16 are handed on, and are wiped as one.
-fn search_places(s: State, memory: &[u8], q: Query, starts: &mut [u32], places: usize) -> Found
+fn search_places(
+    s: State,
+    memory: &[u8],
+    map: &[u8],
+    q: Query,
+    starts: &mut [u32],
+    places: usize,
+) -> Found
     requires { ⌜ 16 ≤ length (now starts) ⌝ }
-    ensures answer { λ r. ⌜ r ≡ searched (channel s (now (memory .entry))) q places ⌝ }
-    ensures starts { λ r. ⌜ take (r .number) (now (starts .exit)) ≡ found (channel s (now (memory .entry))) q places ⌝ }
+    ensures answer { λ r. ⌜ r ≡ searched (withMap s (now (memory .entry)) (now (map .entry))) q places ⌝ }
+    ensures starts { λ r. ⌜ take (r .number) (now (starts .exit)) ≡ found (withMap s (now (memory .entry)) (now (map .entry))) q places ⌝ }
 {
-    let f = search::search(s, memory, q, starts);
+    let f = search::search(s, memory, map, q, starts);
     if places < q.wanted as usize {
         if (f.refusal == 0) | (f.refusal == 21) {
             return Found {
@@ -234,41 +240,45 @@ pub extern "C" fn gemthatch_parameter(number: u32, figure: u32) -> u32
 
 // ---- the table
 
-// Opens a table of M1 slots in lent memory. Refused, in this order: 10, 1.
+// Opens a table of M1 slots in lent memory, with a map of M1 octets. Refused, in this order: 10, 1, 25.
 #[no_mangle]
-pub extern "C" fn gemthatch_open(memory: &mut [u8], m1: u32) -> u32
-    ensures answer { λ r. ⌜ r ≡ overC (openRefusal m1 (now (memory .entry))) 0 ⌝ }
-    ensures memory { λ _. ⌜ now (memory .exit) ≡ openLeaves m1 (now (memory .entry)) .memory ⌝ }
+pub extern "C" fn gemthatch_open(memory: &mut [u8], map: &mut [u8], m1: u32) -> u32
+    ensures answer { λ r. ⌜ r ≡ overC (openMapRefusal m1 (now (memory .entry)) (now (map .entry))) 0 ⌝ }
+    ensures memory { λ _. ⌜ now (memory .exit) ≡ openMapLeaves m1 (now (memory .entry)) (now (map .entry)) .channel .memory ⌝ }
+    ensures map { λ _. ⌜ now (map .exit) ≡ openMapLeaves m1 (now (memory .entry)) (now (map .entry)) .map ⌝ }
 {
-    let a = State::open(memory, m1);
+    let a = slotmap::open(memory, map, m1);
     over_c(a.refusal, a.number)
 }
 
-// Sets the time, drops the records that are over, reports how many. Refused, in this order: 11, 12, 13.
+// Sets the time, drops the records that are over, reports how many. Refused, in this order: 11, 25, 12, 13.
 #[no_mangle]
 pub extern "C" fn gemthatch_clock(
     memory: &mut [u8],
+    map: &mut [u8],
     m1: u32,
     time: u32,
     count: u32,
     slot: u32,
 ) -> u32
-    ensures answer { λ r. ⌜ r ≡ callNumber (lent m1 time count (now (memory .entry))) (clock slot) ⌝ }
-    ensures memory { λ _. ⌜ now (memory .exit) ≡ leaves (lent m1 time count (now (memory .entry))) (clock slot) .memory ⌝ }
+    ensures answer { λ r. ⌜ r ≡ callNumber (lentMap m1 time count (now (memory .entry)) (now (map .entry))) (clock slot) ⌝ }
+    ensures memory { λ _. ⌜ now (memory .exit) ≡ mapLeaves (lentMap m1 time count (now (memory .entry)) (now (map .entry))) (clock slot) .channel .memory ⌝ }
+    ensures map { λ _. ⌜ now (map .exit) ≡ mapLeaves (lentMap m1 time count (now (memory .entry)) (now (map .entry))) (clock slot) .map ⌝ }
 {
     let s = State {
         m1,
         now: time,
         count,
     };
-    let a = s.clock(memory, slot);
+    let a = slotmap::clock(s, memory, map, slot);
     over_c(a.refusal, a.number)
 }
 
-// Adds one record at the end. Refused, in this order: 11, 8, 14, 15, 9, 5, 6, 24, 18, 16, 17.
+// Adds one record at the end. Refused, in this order: 11, 25, 8, 14, 15, 9, 5, 6, 24, 18, 16, 17.
 #[no_mangle]
 pub extern "C" fn gemthatch_reserve(
     memory: &mut [u8],
+    map: &mut [u8],
     m1: u32,
     time: u32,
     count: u32,
@@ -283,8 +293,9 @@ pub extern "C" fn gemthatch_reserve(
     b: f64,
     limit: f64,
 ) -> u32
-    ensures answer { λ r. ⌜ r ≡ callNumber (lent m1 time count (now (memory .entry))) (reserve (request station rate superframes bs length bo kind a b limit)) ⌝ }
-    ensures memory { λ _. ⌜ now (memory .exit) ≡ leaves (lent m1 time count (now (memory .entry))) (reserve (request station rate superframes bs length bo kind a b limit)) .memory ⌝ }
+    ensures answer { λ r. ⌜ r ≡ callNumber (lentMap m1 time count (now (memory .entry)) (now (map .entry))) (reserve (request station rate superframes bs length bo kind a b limit)) ⌝ }
+    ensures memory { λ _. ⌜ now (memory .exit) ≡ mapLeaves (lentMap m1 time count (now (memory .entry)) (now (map .entry))) (reserve (request station rate superframes bs length bo kind a b limit)) .channel .memory ⌝ }
+    ensures map { λ _. ⌜ now (map .exit) ≡ mapLeaves (lentMap m1 time count (now (memory .entry)) (now (map .entry))) (reserve (request station rate superframes bs length bo kind a b limit)) .map ⌝ }
 {
     let s = State {
         m1,
@@ -302,14 +313,15 @@ pub extern "C" fn gemthatch_reserve(
         distance: d,
         limit,
     };
-    let r = s.reserve(memory, q);
+    let r = slotmap::reserve(s, memory, map, q);
     over_c(r.refusal, r.number)
 }
 
-// Rewrites far in all the station's records, reports how many it has. Refused, in this order: 11, 8, 18.
+// Rewrites far in all the station's records, reports how many it has. Refused, in this order: 11, 25, 8, 18.
 #[no_mangle]
 pub extern "C" fn gemthatch_distance(
     memory: &mut [u8],
+    map: &mut [u8],
     m1: u32,
     time: u32,
     count: u32,
@@ -319,8 +331,9 @@ pub extern "C" fn gemthatch_distance(
     b: f64,
     limit: f64,
 ) -> u32
-    ensures answer { λ r. ⌜ r ≡ callNumber (lent m1 time count (now (memory .entry))) (distance station (distanceOf kind a b) limit) ⌝ }
-    ensures memory { λ _. ⌜ now (memory .exit) ≡ leaves (lent m1 time count (now (memory .entry))) (distance station (distanceOf kind a b) limit) .memory ⌝ }
+    ensures answer { λ r. ⌜ r ≡ callNumber (lentMap m1 time count (now (memory .entry)) (now (map .entry))) (distance station (distanceOf kind a b) limit) ⌝ }
+    ensures memory { λ _. ⌜ now (memory .exit) ≡ mapLeaves (lentMap m1 time count (now (memory .entry)) (now (map .entry))) (distance station (distanceOf kind a b) limit) .channel .memory ⌝ }
+    ensures map { λ _. ⌜ now (map .exit) ≡ mapLeaves (lentMap m1 time count (now (memory .entry)) (now (map .entry))) (distance station (distanceOf kind a b) limit) .map ⌝ }
 {
     let s = State {
         m1,
@@ -328,28 +341,30 @@ pub extern "C" fn gemthatch_distance(
         count,
     };
     let d = distance::distance_of(kind, a, b);
-    let r = s.distance(memory, station, d, limit);
+    let r = slotmap::distance(s, memory, map, station, d, limit);
     over_c(r.refusal, r.number)
 }
 
-// Removes the station's records, reports how many. Refused, in this order: 11, 8.
+// Removes the station's records, reports how many. Refused, in this order: 11, 25, 8.
 #[no_mangle]
 pub extern "C" fn gemthatch_wipe(
     memory: &mut [u8],
+    map: &mut [u8],
     m1: u32,
     time: u32,
     count: u32,
     station: u32,
 ) -> u32
-    ensures answer { λ r. ⌜ r ≡ callNumber (lent m1 time count (now (memory .entry))) (wipe station) ⌝ }
-    ensures memory { λ _. ⌜ now (memory .exit) ≡ leaves (lent m1 time count (now (memory .entry))) (wipe station) .memory ⌝ }
+    ensures answer { λ r. ⌜ r ≡ callNumber (lentMap m1 time count (now (memory .entry)) (now (map .entry))) (wipe station) ⌝ }
+    ensures memory { λ _. ⌜ now (memory .exit) ≡ mapLeaves (lentMap m1 time count (now (memory .entry)) (now (map .entry))) (wipe station) .channel .memory ⌝ }
+    ensures map { λ _. ⌜ now (map .exit) ≡ mapLeaves (lentMap m1 time count (now (memory .entry)) (now (map .entry))) (wipe station) .map ⌝ }
 {
     let s = State {
         m1,
         now: time,
         count,
     };
-    let a = s.wipe(memory, station);
+    let a = slotmap::wipe(s, memory, map, station);
     over_c(a.refusal, a.number)
 }
 
@@ -357,20 +372,22 @@ pub extern "C" fn gemthatch_wipe(
 #[no_mangle]
 pub extern "C" fn gemthatch_replay_step(
     memory: &mut [u8],
+    map: &mut [u8],
     m1: u32,
     time: u32,
     count: u32,
     entry: &[u8],
 ) -> u32
-    ensures answer { λ r. ⌜ r ≡ entryNumber (lent m1 time count (now (memory .entry))) (now (entry .entry)) ⌝ }
-    ensures memory { λ _. ⌜ now (memory .exit) ≡ entryLeaves (lent m1 time count (now (memory .entry))) (now (entry .entry)) .memory ⌝ }
+    ensures answer { λ r. ⌜ r ≡ entryNumber (lentMap m1 time count (now (memory .entry)) (now (map .entry))) (now (entry .entry)) ⌝ }
+    ensures memory { λ _. ⌜ now (memory .exit) ≡ mapEntryLeaves (lentMap m1 time count (now (memory .entry)) (now (map .entry))) (now (entry .entry)) .channel .memory ⌝ }
+    ensures map { λ _. ⌜ now (map .exit) ≡ mapEntryLeaves (lentMap m1 time count (now (memory .entry)) (now (map .entry))) (now (entry .entry)) .map ⌝ }
 {
     let s = State {
         m1,
         now: time,
         count,
     };
-    let a = log::step(s, memory, entry);
+    let a = slotmap::step(s, memory, map, entry);
     over_c(a.refusal, a.number)
 }
 
@@ -399,10 +416,11 @@ pub extern "C" fn gemthatch_slot_state(
 }
 
 // Lists the first starts of a block that may be used, four octets to each, into a list that is wiped at each call.
-// Refused, in this order: 11, 19, 9, 20, 1, 21.
+// Refused, in this order: 11, 25, 19, 9, 20, 1, 21.
 #[no_mangle]
 pub extern "C" fn gemthatch_search(
     memory: &[u8],
+    map: &[u8],
     m1: u32,
     time: u32,
     count: u32,
@@ -412,8 +430,8 @@ pub extern "C" fn gemthatch_search(
     wanted: u32,
     list: &mut [u8],
 ) -> u32
-    ensures answer { λ r. ⌜ r ≡ searchNumber (lent m1 time count (now (memory .entry))) (query lo hi length wanted) (len (now (list .entry))) ⌝ }
-    ensures list { λ _. ⌜ now (list .exit) ≡ searchList (lent m1 time count (now (memory .entry))) (query lo hi length wanted) (len (now (list .entry))) ⌝ }
+    ensures answer { λ r. ⌜ r ≡ searchNumber (lentMap m1 time count (now (memory .entry)) (now (map .entry))) (query lo hi length wanted) (len (now (list .entry))) ⌝ }
+    ensures list { λ _. ⌜ now (list .exit) ≡ searchList (lentMap m1 time count (now (memory .entry)) (now (map .entry))) (query lo hi length wanted) (len (now (list .entry))) ⌝ }
 {
     octets::clear_from(list, 0);
     let s = State {
@@ -429,7 +447,7 @@ pub extern "C" fn gemthatch_search(
     };
     let mut starts = [0u32; 16];
     let places = list.len() / 4;
-    let f = search_places(s, memory, q, &mut starts, places);
+    let f = search_places(s, memory, map, q, &mut starts, places);
     let n = f.number as usize;
     put_numbers(list, &starts, n);
     over_c(f.refusal, f.number)

@@ -1,34 +1,39 @@
 -- The marked cases: over octets those of a table are what they are over records, and all of them by computing. Assumes nothing.
-use Prim.Native.Nat.{ℕ}
+use Prim.Native.Nat.{ℕ, _+_, _<_, _≤_}
 use mathlib.Core.Path.{_≡_, refl, sym, ap, _∙_, fun-ext}
 use mathlib.Core.Bool.{true}
 use mathlib.Core.List.{List, [], _∷_, map}
 use lib.IntN.{pos, negsuc}
+use lib.ListN.{take, drop, set}
 use lib.Ieee.{ofInt, neg, add, mul, le}
+use borrow.Author.Tests.{leb-true, eqb-false}
 use Rattle.octets.specs.Refusals.{firstOf, answer}
 use Rattle.octets.specs.Complement.{octetOf}
 use Rattle.octets.specs.Octets.{little}
 use Rattle.codec.specs.NineOctets.{fieldTests, readTests}
 use Rattle.codec.specs.Parameters.{m1Row, fits}
 use Rattle.record.specs.declared.Rec.{Rec}
-use Rattle.record.specs.Record.{threeZeros}
+use Rattle.record.specs.Record.{packed, threeZeros}
 use Rattle.record.proofs.Packed.{packed-one}
 use Rattle.series.specs.Series.{someBelow, inBlock, inSeries, furtherBefore, inFurther, reserves, lastSlot}
-use Rattle.sound.specs.Sound.{Channel, records, lasts}
+use Rattle.sound.specs.Sound.{Channel, records, lasts, sound}
 use Rattle.table.specs.Table.{Table, Call, clock}
-use Rattle.table.specs.Memory.{channelOf, leaves, says}
+use Rattle.table.specs.Memory.{channelOf, leaves, says, opened}
 use Rattle.slots.specs.declared.SlotAnswer.{SlotAnswer}
 use Rattle.slots.specs.Slots.{stateBy, slotState, slotAnswer, slotOn}
+use Rattle.slots.specs.Window.{slotStateNumber, windowStates}
 use Rattle.trace.specs.Machine.{runs}
 use Rattle.trace.specs.Records.{Sound, leftOn, saidOn, onRecords}
-use Rattle.trace.proofs.Machine.{runs-good}
-use Rattle.trace.proofs.Written.{records-channelOf, leaves-records, refined, empty, roomForOne-sound, roomForOne-runs}
+use Rattle.trace.proofs.Machine.{runs-good, runs-refined}
+use Rattle.trace.proofs.Written.{records-channelOf, sound-channelOf, leaves-records, refined, empty, roomForOne-sound, roomForOne-runs}
+use Rattle.slotmap.specs.Map.{withFresh}
+use Rattle.slotmap.proofs.Demand3.{on-a-fresh-map}
 use Rattle.search.specs.declared.Query.{Query}
 use Rattle.search.specs.Search.{level0, level1, qualifying, listed, statesOf, searchTests, searchRefusal, found}
 use Rattle.distance.specs.declared.Distance.the-variants.{Unknown, Range}
 use Rattle.distance.specs.Distances.{num}
-use Rattle.marked.specs.Marked.{callsT, afterCalls, shortly, blocks, around, Marked}
-use Rattle.marked.proofs.Searches.{slotAnswer-channelOf, searchRefusal-channelOf, found-channelOf}
+use Rattle.marked.specs.Marked.{callsT, afterCalls, mapAfterCalls, shortly, blocks, around, Marked}
+use Rattle.marked.proofs.Searches.{slotAnswer-channelOf, searchRefusal-channelOf, found-channelOf, freshMap-part, searchRefusal-wrong}
 
 -- ---- a table with room for one record, over records
 
@@ -68,11 +73,26 @@ module _ (m1 : ℕ) (h : fits m1Row m1 ≡ true) (cs : List Call) where
   swept : (slot : ℕ) → records (leaves (afterCalls m1 cs) (clock slot)) ≡ leftOn held (clock slot) .records
   swept slot = rw written (leaves-records held sound-held (clock slot))
 
-  searched : (q : Query) → found (afterCalls m1 cs) q 3 ≡ answer (firstOf (searchTests held q 3)) (listed (statesOf held) q) (λ _. [])
-  searched q = rw written (found-channelOf held sound-held q 3)
+  -- ---- and with the map
 
-  refused : (q : Query) → searchRefusal (afterCalls m1 cs) q 3 ≡ firstOf (searchTests held q 3)
-  refused q = rw written (searchRefusal-channelOf held sound-held q 3)
+  -- it is the fresh one
+  withMap : mapAfterCalls m1 cs ≡ withFresh (channelOf held)
+  withMap =
+      let first : sound (opened m1 (packed 1 [])) ≡ true = rw (roomForOne-runs m1 h []) (sound-channelOf (empty m1 1) (roomForOne-sound m1 h)) in
+      runs-refined on-a-fresh-map (opened m1 (packed 1 [])) cs first ∙ ap withFresh written
+
+  searched : (q : Query) → found (mapAfterCalls m1 cs) q 3 ≡ answer (firstOf (searchTests held q 3)) (listed (statesOf held) q) (λ _. [])
+  searched q = rw withMap (found-channelOf held sound-held q 3)
+
+  refused : (q : Query) → searchRefusal (mapAfterCalls m1 cs) q 3 ≡ firstOf (searchTests held q 3)
+  refused q = rw withMap (searchRefusal-channelOf held sound-held q 3)
+
+  drawn : (d n : ℕ) → d + n ≤ held .m1 → take n (drop d (mapAfterCalls m1 cs .map)) ≡ windowStates (held .m1) (held .records) (held .now + d) n
+  drawn d n l = rw withMap (freshMap-part held sound-held d n l)
+
+  wrong : (i x : ℕ) → i < held .m1 → (x ≡ slotStateNumber (held .m1) (held .records) (held .now + i) → ⊥) → (q : Query)
+      → searchRefusal (record { channel = mapAfterCalls m1 cs .channel; map = set (mapAfterCalls m1 cs .map) i x }) q 3 ≡ 25
+  wrong i x l other q = rw withMap (searchRefusal-wrong held sound-held i x l other q 3)
 
 -- the calls that bring T near, far, and near with bo 10
 abbrev near : List Call
@@ -139,4 +159,7 @@ marked =
       early-refused = told 60 fit60 [] (shortly (negsuc 62));
       ends-before = ap (map (lastSlot 60)) (stored 60 fit60 (shortly (negsuc 61) ∷ []));
       begins-before = judged 60 fit60 (shortly (negsuc 61) ∷ []) 0;
+      map-near = drawn 4500 fit4500 near 4 7 (leb-true 11 4500 refl);
+      map-far = drawn 4500 fit4500 far 4 7 (leb-true 11 4500 refl);
+      map-wrong = wrong 4500 fit4500 near 5 1 (leb-true 6 4500 refl) (eqb-false 1 2 refl) (blocks 105 111);
     }

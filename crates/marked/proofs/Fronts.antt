@@ -10,13 +10,13 @@ use Rattle.search.specs.declared.Query.{Query}
 use Rattle.search.specs.declared.Found.{Found}
 use Rattle.search.specs.Search.{found, searched, listAfter}
 use Rattle.io.specs.Counts.{Counts}
-use Rattle.sound.specs.Sound.{Channel}
+use Rattle.slotmap.specs.Map.{Mapped}
 
 -- a list of so many places, with n numbers in the answer
 pub counts-only : (places n : ℕ) (answer out : List ℕ) → n ≡ length answer → out ≡ holdsOnly places answer → Counts n out
 counts-only places n answer out e f = rw (f, e) (rw length-append (omega arith), rw take-append-seam)
 
 -- so has a search's list what was found
-pub counts-found : (m : Channel) (q : Query) (places : ℕ) (r : Found) (out : List ℕ) → r ≡ searched m q places → out ≡ listAfter m q places → Counts (r .number) out
+pub counts-found : (x : Mapped) (q : Query) (places : ℕ) (r : Found) (out : List ℕ) → r ≡ searched x q places → out ≡ listAfter x q places → Counts (r .number) out
 unfolding searched listAfter
-counts-found m q places r out e f = counts-only places (r .number) (found m q places) out (ap (λ x. x .number) e) f
+counts-found x q places r out e f = counts-only places (r .number) (found x q places) out (ap (λ y. y .number) e) f

@@ -1,9 +1,10 @@
--- Document 01's marked cases, and those of No. 4, as one table under a single claim: `Marked`, which `claims` in src/main.rt promises.
+-- Document 01's marked cases, and those of No. 4 and No. 5, as one table under a single claim: `Marked`, which `claims` in src/main.rt promises.
 use Prim.Native.Nat.{ℕ, _+_, _-_}
 use mathlib.Core.Path.{_≡_}
 use mathlib.Core.Bool.{true, false}
 use mathlib.Core.List.{List, [], _∷_, map}
 use lib.IntN.{ℤ, pos, negsuc}
+use lib.ListN.{take, drop, set}
 use Rattle.codec.specs.declared.Destination.{Destination}
 use Rattle.codec.specs.declared.Destination.the-variants.{Address, NoRebroadcast}
 use Rattle.codec.specs.declared.Reading.{Reading}
@@ -22,6 +23,8 @@ use Rattle.table.specs.Memory.{leaves, says, opened}
 use Rattle.slots.specs.Slots.{slotAnswer}
 use Rattle.trace.specs.Machine.{runs}
 use Rattle.trace.specs.Sequences.{onOctets}
+use Rattle.slotmap.specs.Map.{Mapped, withFresh}
+use Rattle.slotmap.specs.Sequences.{onMap}
 use Rattle.search.specs.declared.Query.{Query}
 use Rattle.search.specs.Search.{searchRefusal, found}
 
@@ -45,9 +48,17 @@ afterCalls m1 cs = runs onOctets (opened m1 (packed 1 [])) cs
 abbrev pub nearT : Channel
 nearT = afterCalls 4500 (callsT (pos 0) Unknown)
 
--- T far
-abbrev pub farT : Channel
-farT = afterCalls 4500 (callsT (pos 0) (Range (num 150)))
+-- a table after calls with the map that they left beside it
+abbrev pub mapAfterCalls : ℕ → List Call → Mapped
+mapAfterCalls m1 cs = runs onMap (withFresh (opened m1 (packed 1 []))) cs
+
+-- T near, with its map
+abbrev pub nearMapT : Mapped
+nearMapT = mapAfterCalls 4500 (callsT (pos 0) Unknown)
+
+-- T far, with its map
+abbrev pub farMapT : Mapped
+farMapT = mapAfterCalls 4500 (callsT (pos 0) (Range (num 150)))
 
 -- T near, with bo 10
 abbrev pub offsetT : Channel
@@ -98,11 +109,11 @@ pub record Marked : Type 0 where
   pub p7-kept : Clocked nearT 7609 0 (records nearT)
   pub p7-gone : Clocked nearT 7610 1 []
   -- P8 search 105..111, length 2, wanted 3: 110, 111
-  pub p8 : found nearT (blocks 105 111) 3 ≡ 110 ∷ 111 ∷ []
+  pub p8 : found nearMapT (blocks 105 111) 3 ≡ 110 ∷ 111 ∷ []
   -- P9 with T far: 110, 111, 105
-  pub p9 : found farT (blocks 105 111) 3 ≡ 110 ∷ 111 ∷ 105 ∷ []
+  pub p9 : found farMapT (blocks 105 111) 3 ≡ 110 ∷ 111 ∷ 105 ∷ []
   -- P10 search 105..105, length 2, wanted 3, T near: 21
-  pub p10 : searchRefusal nearT (blocks 105 105) 3 ≡ 21
+  pub p10 : searchRefusal nearMapT (blocks 105 105) 3 ≡ 21
   -- P11 offset 90, 120 at limit 150 is far; 90, 119 isn't
   pub p11-far : isFar (offset (num 90) (num 120)) (num 150) ≡ true
   pub p11-not-far : isFar (offset (num 90) (num 119)) (num 150) ≡ false
@@ -130,3 +141,8 @@ pub record Marked : Type 0 where
   -- that further series, slots 0 to 4, ends before the first one does, whose last slot is 6
   pub ends-before : map (lastSlot 60) (records (afterCalls 60 (shortly (negsuc 61) ∷ []))) ≡ 6 ∷ []
   pub begins-before : slotAnswer (afterCalls 60 (shortly (negsuc 61) ∷ [])) 0 ≡ Is Taken
+  -- No. 5: the map's octets of the slots 104 to 110, T near and far
+  pub map-near : take 7 (drop 4 (nearMapT .map)) ≡ 0 ∷ 2 ∷ 2 ∷ 2 ∷ 2 ∷ 2 ∷ 0 ∷ []
+  pub map-far : take 7 (drop 4 (farMapT .map)) ≡ 0 ∷ 1 ∷ 1 ∷ 1 ∷ 1 ∷ 1 ∷ 0 ∷ []
+  -- P8 with the map's octet of slot 105 changed to 1: 25
+  pub map-wrong : searchRefusal (record { channel = nearMapT .channel; map = set (nearMapT .map) 5 1 }) (blocks 105 111) 3 ≡ 25

@@ -1,4 +1,4 @@
-// Document 01's marked cases, and those of No. 4: one claim over the definitions, and the same cases run through the functions. Beside them run
+// Document 01's marked cases, and those of No. 4 and No. 5: one claim over the definitions, and the same cases run through the functions. Beside them run
 // cases of slips that the marked ones let through, the parameters' defaults, and 000's example of a superframe block reservation.
 use distance::Distance;
 use distance::Offset;
@@ -178,7 +178,7 @@ fn put_clocks(name: &[u8], s: State, memory: [u8; record::SIZE], last: u32)
 }
 
 // What a search for three blocks of two slots gives. A refused one finds none.
-fn put_search(name: &[u8], s: State, memory: &[u8], lo: u32, hi: u32) {
+fn put_search(name: &[u8], s: State, memory: &[u8], map: &[u8], lo: u32, hi: u32) {
     let q = Query {
         lo,
         hi,
@@ -186,7 +186,7 @@ fn put_search(name: &[u8], s: State, memory: &[u8], lo: u32, hi: u32) {
         wanted: 3,
     };
     let mut list = [0u32; 3];
-    let found = search::search(s, memory, q, &mut list);
+    let found = search::search(s, memory, map, q, &mut list);
     let n = found.number as usize;
     put(name);
     if found.refusal != 0 {
@@ -196,11 +196,19 @@ fn put_search(name: &[u8], s: State, memory: &[u8], lo: u32, hi: u32) {
     put(b"\n");
 }
 
-// What a search gives in T's table, made anew.
+// T's table with its map beside it.
+fn reserve_mapped(memory: &mut [u8], map: &mut [u8], distance: Distance) -> State {
+    let opened = slotmap::open(memory, map, 4500).state;
+    let clocked = slotmap::clock(opened, memory, map, 100).state;
+    slotmap::reserve(clocked, memory, map, request_t(1, 0, distance)).state
+}
+
+// What a search gives in it, made anew.
 fn put_search_t(name: &[u8], distance: Distance, lo: u32, hi: u32) {
     let mut memory = [0u8; record::SIZE];
-    let s = reserve_t(&mut memory, 0, distance);
-    put_search(name, s, &memory, lo, hi);
+    let mut map = [0u8; 4500];
+    let s = reserve_mapped(&mut memory, &mut map, distance);
+    put_search(name, s, &memory, &map, lo, hi);
 }
 
 fn put_t() {
@@ -270,6 +278,20 @@ fn put_offsets_of_blocks() {
     put_offset_t();
     put_short(b"M1 60, bo -62:", -62);
     put_short(b"M1 60, bo -63:", -63);
+}
+
+// ---- No. 5
+
+// The map's octets of the slots 104 to 110 around T's first block, and P8 with one of them changed.
+fn put_map() {
+    let mut memory = [0u8; record::SIZE];
+    let mut map = [0u8; 4500];
+    let s = reserve_mapped(&mut memory, &mut map, Distance::Unknown);
+    put(b"map, slots 104 to 110:");
+    put_octets(&map[4..11]);
+    put(b"\n");
+    map[5] = 1;
+    put_search(b"P8 with a wrong map:", s, &memory, &map, 105, 111);
 }
 
 // ---- slips that the marked cases let through, the parameters' defaults, and 000's example
@@ -393,6 +415,7 @@ fn main() {
     put_t();
     put_offsets();
     put_offsets_of_blocks();
+    put_map();
     put_d_bits();
     put_defaults();
     put_spacing(b"M1 60, rate 7:", 60, 7);

@@ -4,3 +4,5 @@ pub mod Octets
 pub mod Zeros
 pub mod Complement
 pub mod ToFront
+pub mod SameOctets
+pub mod Copied

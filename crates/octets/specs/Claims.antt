@@ -1,12 +1,12 @@
--- What is claimed of little-endian numbers, at every width, and of two's complement. `claims` in src/lib.rt promises all of it.
+-- What is claimed of little-endian numbers, at every width, of two's complement, and of octets compared. `claims` in src/lib.rt promises all of it.
 use Prim.Native.Nat.{ℕ, _+_, _^_, _<_, _≤_}
 use mathlib.Core.Path.{_≡_}
-use mathlib.Core.Bool.{false}
+use mathlib.Core.Bool.{true, false}
 use mathlib.Core.List.{List}
 use lib.IntN.{ℤ, subℕ}
 use lib.Dec.{eqb}
 use lib.ListN.{length}
-use Rattle.octets.specs.Octets.{AreOctets, little, number, numberAt, putAt}
+use Rattle.octets.specs.Octets.{AreOctets, little, number, numberAt, putAt, sameOctets}
 use Rattle.octets.specs.Complement.{signedOf, twosOf, beyond127, lifted}
 
 pub record Claims : Type 0 where
@@ -27,3 +27,5 @@ pub record Claims : Type 0 where
   pub only-128 : (n : ℕ) → n < 256 → beyond127 (signedOf n) ≡ eqb n 128
   -- and what is lifted, less 128, is the number that the octet says
   pub lifted-is-signed : (n : ℕ) → n < 256 → subℕ (lifted n) 128 ≡ signedOf n
+  -- octets are found the same exactly where they are the same
+  pub same-octets : (xs ys : List ℕ) → (sameOctets xs ys ≡ true → xs ≡ ys) × (xs ≡ ys → sameOctets xs ys ≡ true)

@@ -1,6 +1,6 @@
 -- Little-endian numbers, over the width, and octets that are 0.
 use Prim.Native.Nat.{ℕ, zero, suc, _+_, _-_, _*_, _/_, _%_, _<_}
-use mathlib.Core.Bool.{Bool, cond}
+use mathlib.Core.Bool.{Bool, true, false, cond, _&&_}
 use mathlib.Core.List.{List, [], _∷_, _++_}
 use lib.Dec.{leb, eqb}
 use lib.ListN.{length, getD, take, drop, replicate}
@@ -40,6 +40,17 @@ zeros m = every (λ b. eqb b 0) m
 -- the octets from a place on made 0
 abbrev pub zeroFrom : ℕ → List ℕ → List ℕ
 zeroFrom at m = take at m ++ replicate (length m - at) 0
+
+-- as many octets, and each the same
+unfoldable pub sameOctets : List ℕ → List ℕ → Bool
+sameOctets [] [] = true
+sameOctets [] (y ∷ ys) = false
+sameOctets (x ∷ xs) [] = false
+sameOctets (x ∷ xs) (y ∷ ys) = eqb x y && sameOctets xs ys
+
+-- a memory with octets copied over its first, as many as both have
+abbrev pub copiedOver : List ℕ → List ℕ → List ℕ
+copiedOver octets m = take (length m) octets ++ drop (length octets) m
 
 -- a memory with the n octets from a place on copied to its front; where they don't all stand there, as it was
 unfoldable pub toFront : ℕ → ℕ → List ℕ → List ℕ

@@ -1,11 +1,11 @@
-// Little-endian numbers in octets, two's complement, octets that are 0, and octets copied to the front.
+// Little-endian numbers in octets, two's complement, octets that are 0, octets compared, and octets copied.
 ghost use mathlib.Core.Path.{_≡_};
 ghost use Prim.Native.Nat.{_+_, _<_, _≤_};
 ghost use mathlib.Core.Bool.{_&&_};
 ghost use mathlib.Core.List.{_∷_, [], _++_};
 ghost use lib.Dec.{eqb};
 ghost use lib.ListN.{length, take, drop};
-ghost use Rattle.octets.specs.Octets.{little, number, numberAt, putAt, zeros, zeroFrom, toFront};
+ghost use Rattle.octets.specs.Octets.{little, number, numberAt, putAt, zeros, zeroFrom, toFront, sameOctets, copiedOver};
 ghost use Rattle.octets.specs.Complement.{signedOf, octetOf, lifted};
 ghost use Rattle.octets.specs.Claims.{Claims};
 
@@ -144,6 +144,33 @@ pub fn clear_from(memory: &mut [u8], at: usize)
     let mut i = at;
     while i < memory.len() {
         memory[i] = 0;
+        i += 1;
+    }
+}
+
+// Whether octets are as many as others, and each the same. It looks at all: without an early way out the loop is vectorised.
+pub fn same(a: &[u8], b: &[u8]) -> bool
+    ensures { λ r. ⌜ r ≡ sameOctets (now (a .entry)) (now (b .entry)) ⌝ }
+{
+    if a.len() != b.len() {
+        return false;
+    }
+    let mut all = true;
+    let mut i = 0;
+    while i < a.len() {
+        all = all & (a[i] == b[i]);
+        i += 1;
+    }
+    all
+}
+
+// Copies octets over the first of others, as many as both have.
+pub fn copy(to: &mut [u8], from: &[u8])
+    ensures { λ _. ⌜ now (to .exit) ≡ copiedOver (now (from .entry)) (now (to .entry)) ⌝ }
+{
+    let mut i = 0;
+    while (i < to.len()) & (i < from.len()) {
+        to[i] = from[i];
         i += 1;
     }
 }

@@ -1,19 +1,20 @@
 -- Laws of the records in a memory: `image` and `allRecords` undo each other. Assumes nothing.
-use Prim.Native.Nat.{ℕ, zero, suc, _+_, _*_, _/_, _%_, _≤_}
+use Prim.Native.Nat.{ℕ, zero, suc, _+_, _*_, _/_, _%_, _^_, _≤_}
 use mathlib.Core.Path.{_≡_, refl, sym, ap, _∙_}
 use mathlib.Core.Bool.{true}
 use mathlib.Core.List.{List, [], _∷_, _++_, append-assoc, append-nil}
 use native.Mathlib.Nat.{div-mul-le-self, div-eq-of-eq-mul-left, zero-mul, suc-mul}
 use native.Mathlib.Omega.{arith}
-use borrow.Author.Tests.{eqb-true}
-use lib.Dec.{lit<}
+use borrow.Author.Tests.{eqb-true, lt-ltb}
+use lib.Dec.{ltb, lit<}
 use lib.ListN.{length, take, drop, length-append, length-drop, drop-of-length-le, take-append-drop}
 use lib.Seq.{take-at, drop-at, length-take-le}
+use Rattle.octets.specs.Lists.{every}
 use Rattle.octets.specs.Octets.{AreOctets}
 use Rattle.octets.proofs.Octets.{are-octets-drop}
 use Rattle.record.specs.declared.Rec.{Rec}
-use Rattle.record.specs.Record.{size, encode, decode, AllFit, image, whole, capacity, firstRecords, allRecords}
-use Rattle.record.proofs.Fields.{length-encode, decode-encode, encode-decode}
+use Rattle.record.specs.Record.{size, fields, encode, decode, AllFit, image, whole, capacity, firstRecords, allRecords}
+use Rattle.record.proofs.Fields.{length-encode, decode-encode, encode-decode, fit-decode}
 
 -- ---- capacity and whole
 
@@ -126,3 +127,23 @@ module _ (m : List ℕ) (h : AreOctets m) (e : length m ≡ capacity m * size) (
   -- and the second those from it on
   pub image-drop : image (drop k (allRecords m)) ≡ drop (k * size) m
   image-drop = sym (drop-at (image (take k (allRecords m))) (image (drop k (allRecords m))) (k * size) length-image-take) ∙ ap (drop (k * size)) image-parts
+
+-- ---- a station in octets
+
+-- one that sixteen octets say has 32 bits
+station-decode : (m : List ℕ) → AreOctets m → size ≤ length m → ltb (decode m .station) (2 ^ 32) ≡ true
+unfolding fields
+station-decode m h l = lt-ltb (decode m .station) (2 ^ 32) (omega (arith, fit-decode m h l .0))
+
+-- so have those of the first n records
+stations-firstRecords : (n : ℕ) (m : List ℕ) → AreOctets m → n * size ≤ length m → every (λ r. ltb (r .station) (2 ^ 32)) (firstRecords n m) ≡ true
+unfolding firstRecords
+stations-firstRecords zero m h l = refl
+stations-firstRecords (suc n) m h l =
+    let k : n * size + size ≤ length m = rw suc-mul at l in
+    rw (station-decode m h (omega arith), stations-firstRecords n (drop size m) (are-octets-drop size m h) (rw length-drop (omega arith)))
+
+-- and of all that there is room for
+pub stations-allRecords : (m : List ℕ) → AreOctets m → every (λ r. ltb (r .station) (2 ^ 32)) (allRecords m) ≡ true
+unfolding allRecords
+stations-allRecords m h = stations-firstRecords (capacity m) m h (capacity-fits m)

@@ -9,8 +9,7 @@ use Rattle.octets.specs.Lists.{every, has, from}
 use Rattle.octets.proofs.Lists.{every-not, every-sub, every-has, every-from-next, every-from-agree, has-from}
 use Rattle.slots.specs.declared.Slot.{Slot}
 use Rattle.search.specs.declared.Query.{Query}
-use Rattle.search.specs.Search.{isTaken, level0, level1}
-use Rattle.search.specs.Steps.{statesIn}
+use Rattle.search.specs.Search.{isTaken, level0, level1, statesIn}
 use Rattle.search.proofs.Octets.{slotBelow, octet-greater, octet-free, octet-untaken}
 
 -- the octets of the block at s are all below x: with 1 all its slots are free, with 2 none is taken

@@ -10,12 +10,11 @@ use Rattle.slots.specs.declared.Slot.{Slot}
 use Rattle.slots.specs.declared.Slot.the-variants.{Free, Reusable, Taken}
 use Rattle.slots.specs.Slots.{stateNumber}
 use Rattle.search.specs.declared.Query.{Query}
-use Rattle.search.specs.Search.{listed}
-use Rattle.search.specs.Steps.{slotOf, statesIn}
+use Rattle.search.specs.Search.{listed, slotOf, statesIn}
 use Rattle.search.proofs.Window.{window-alone}
 
 -- the number of a state says the state
-slotOf-number : (x : Slot) → slotOf (stateNumber x) ≡ x
+pub slotOf-number : (x : Slot) → slotOf (stateNumber x) ≡ x
 unfolding slotOf
 slotOf-number Free = refl
 slotOf-number Reusable = refl

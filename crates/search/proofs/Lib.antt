@@ -11,4 +11,5 @@ pub mod First
 pub mod None
 pub mod Window
 pub mod ByOctets
+pub mod InMap
 pub mod Answers

@@ -7,8 +7,8 @@ use mathlib.Core.List.{List}
 use lib.Dec.{ltb, eqb}
 use borrow.Author.Tests.{ltb-true, eqb-true, eqb-false, lt-ltb, le-ltb}
 use Rattle.slots.specs.declared.Slot.the-variants.{Free, Reusable, Taken}
-use Rattle.search.specs.Search.{isFree, isTaken}
-use Rattle.search.specs.Steps.{slotOf, octetBelow, streak}
+use Rattle.search.specs.Search.{isFree, isTaken, slotOf}
+use Rattle.search.specs.Steps.{octetBelow, streak}
 use Rattle.search.proofs.Streak.{streak-agree}
 
 -- a slot's octet is below x

@@ -12,8 +12,8 @@ use Rattle.octets.specs.Octets.{holdsOnly}
 use Rattle.octets.proofs.Lists.{keep-append, keep-every, from-append, every-from}
 use Rattle.slots.specs.declared.Slot.{Slot}
 use Rattle.search.specs.declared.Query.{Query}
-use Rattle.search.specs.Search.{level0, level1, listed}
-use Rattle.search.specs.Steps.{WellAsked, statesIn, boundBy, Filled, ListedOn, BehindAre}
+use Rattle.search.specs.Search.{level0, level1, listed, statesIn}
+use Rattle.search.specs.Steps.{WellAsked, boundBy, Filled, ListedOn, BehindAre}
 use Rattle.search.proofs.Blocks.{blockBelow, Passed, block-level0, free-level1, passed-level0, passed-level1, untaken-level1}
 use Rattle.search.proofs.Behind.{behind-below, behind-not-below}
 use Rattle.search.proofs.Filled.{filled-none, filled-take, filled-full}

@@ -7,8 +7,6 @@ use lib.Dec.{ltb, eqb}
 use lib.ListN.{length as len, take, getD}
 use Rattle.octets.specs.Lists.{from}
 use Rattle.octets.specs.Octets.{holdsOnly}
-use Rattle.slots.specs.declared.Slot.{Slot}
-use Rattle.slots.specs.declared.Slot.the-variants.{Free, Reusable, Taken}
 use Rattle.search.specs.declared.Query.{Query}
 
 -- what the tests before 21 leave of a query
@@ -21,14 +19,6 @@ pub record WellAsked (q : Query) (places : ℕ) : Type 0 where
   pub has-room : q .wanted ≤ places
 
 -- ---- octets of slot states
-
--- the state that an octet says: 0 free, 1 reusable, else taken
-unfoldable pub slotOf : ℕ → Slot
-slotOf x = cond (eqb x 0) Free (cond (eqb x 1) Reusable Taken)
-
--- the states of the slots from lo on that octets say
-abbrev pub statesIn : List ℕ → ℕ → ℕ → Slot
-statesIn xs lo slot = slotOf (getD xs (slot - lo) 0)
 
 -- the octet at a place is below x
 abbrev pub octetBelow : List ℕ → ℕ → ℕ → Bool

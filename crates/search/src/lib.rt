@@ -1,14 +1,18 @@
-// The search for blocks of slots that may be used, over the promise of a window's slot states; and pick.
+// The search for blocks of slots that may be used, along the map or over the promise of a window's slot states; and pick.
+use slots::Part;
 use table::State;
 ghost use mathlib.Core.Path.{_≡_};
+ghost use mathlib.Core.Bool.{true};
 ghost use mathlib.Core.List.{[], _++_};
 ghost use Prim.Native.Nat.{_+_, _-_, _≤_, _<_};
+ghost use lib.Dec.{leb};
 ghost use lib.ListN.{length, length as len, take};
 ghost use Rattle.octets.specs.Octets.{holdsOnly};
 ghost use Rattle.octets.specs.Refusals.{firstOf};
 ghost use Rattle.table.specs.Memory.{channel, tableOf};
-ghost use Rattle.search.specs.Search.{statesOf, queryTests, listed, listAfter, searched, picked};
-ghost use Rattle.search.specs.Steps.{WellAsked, statesIn, octetBelow, streak, boundBy, BehindAre, ListedOn};
+ghost use Rattle.slotmap.specs.Map.{withMap, isFresh};
+ghost use Rattle.search.specs.Search.{statesOf, statesIn, queryTests, listed, listAfter, searched, picked};
+ghost use Rattle.search.specs.Steps.{WellAsked, octetBelow, streak, boundBy, BehindAre, ListedOn};
 ghost use Rattle.search.specs.Claims.{Claims};
 
 // What a search is given: where a block may start, its length, and how many starts are wanted.
@@ -106,7 +110,7 @@ fn bound(kept: usize, most: usize) -> u8
 // many numbers the list holds then. With a free slot behind it a free block is followed by a free one, and with a reusable slot behind it one of
 // level 1 by one of level 1.
 fn list_while(states: &[u8], q: Query, list: &mut [u32], n: usize, start: u32, state: u8) -> usize
-    requires { ⌜ (q .lo ≤ start) × (start ≤ q .hi) × (q .hi ≤ 1000000000) × (q .length ≤ 32) × (q .hi + q .length < q .lo + length (now states)) ⌝ }
+    requires { ⌜ (q .lo ≤ start) × (start ≤ q .hi) × (q .hi ≤ 1000000000) × (q .length ≤ 32) × (q .hi + q .length ≤ q .lo + length (now states)) ⌝ }
     requires { ⌜ (n < q .wanted) × (q .wanted ≤ length (now list)) ⌝ }
     ensures number { λ r. ⌜ (n < r) × (r ≤ q .wanted) × (start + (r - n) ≤ q .hi + 1) ⌝ }
     ensures behind { λ r. ⌜ BehindAre (now (states .entry)) q state start (start + (r - n)) ⌝ }
@@ -119,7 +123,10 @@ fn list_while(states: &[u8], q: Query, list: &mut [u32], n: usize, start: u32, s
     while k < most {
         list[k] = s;
         k += 1;
-        if (s == q.hi) | (states[(s - q.lo) as usize + length] != state) {
+        if s == q.hi {
+            return k;
+        }
+        if states[(s - q.lo) as usize + length] != state {
             return k;
         }
         s += 1;
@@ -144,10 +151,10 @@ fn append(list: &mut [u32], n: usize, most: usize, later: &[u32], kept: usize) -
     k
 }
 
-// Goes along the states of a query's slots, from lo on and with an octet more behind them: the level 0 starts in `list` and the level 1
+// Goes along the states of a query's slots, from lo on: the level 0 starts in `list` and the level 1
 // starts in `later`, both wiped. A slot that rules a block out rules out every start whose block holds it, so many slots are never looked at.
 fn scan(states: &[u8], q: Query, list: &mut [u32], later: &mut [u32]) -> usize
-    requires { ⌜ WellAsked q (length (now list)) × (q .wanted ≤ length (now later)) × (q .hi + q .length < q .lo + length (now states)) ⌝ }
+    requires { ⌜ WellAsked q (length (now list)) × (q .wanted ≤ length (now later)) × (q .hi + q .length ≤ q .lo + length (now states)) ⌝ }
     requires { ⌜ (now list ≡ holdsOnly (length (now list)) []) × (now later ≡ holdsOnly (length (now later)) []) ⌝ }
     ensures number { λ r. ⌜ r ≡ length (listed (statesIn (now (states .entry)) (q .lo)) q) ⌝ }
     ensures list { λ _. ⌜ now (list .exit) ≡ holdsOnly (length (now (list .entry))) (listed (statesIn (now (states .entry)) (q .lo)) q) ⌝ }
@@ -212,85 +219,19 @@ fn look(
         wanted,
     };
     let n = (hi - lo + length) as usize + 32;
-    slots::raise(s, memory, lo, &mut window[..n]);
+    slots::raise(s, memory, Part::All, lo, &mut window[..n]);
     let mut later = [0u32; 16];
     scan(window, q, list, &mut later)
 }
 
-// The same for a query about some ten slots: a short window is sooner cleared.
-fn look_close(s: State, memory: &[u8], q: Query, list: &mut [u32]) -> usize
-    requires { ⌜ WellAsked q (length (now list)) × (q .hi + q .length + 32 ≤ q .lo + 64) ⌝ }
-    requires { ⌜ now list ≡ holdsOnly (length (now list)) [] ⌝ }
-    ensures number { λ r. ⌜ r ≡ length (listed (statesOf (tableOf (channel s (now (memory .entry))))) q) ⌝ }
-    ensures list { λ _. ⌜ now (list .exit) ≡ holdsOnly (length (now (list .entry))) (listed (statesOf (tableOf (channel s (now (memory .entry))))) q) ⌝ }
-{
-    let mut window = [0u8; 64];
-    look(
-        s.m1,
-        s.now,
-        s.count,
-        memory,
-        q.lo,
-        q.hi,
-        q.length,
-        q.wanted,
-        &mut window,
-        list,
-    )
-}
-
-// The same for one about some hundred.
+// The same for a query about a thousand slots at most: a short window is sooner wiped.
 fn look_near(s: State, memory: &[u8], q: Query, list: &mut [u32]) -> usize
-    requires { ⌜ WellAsked q (length (now list)) × (q .hi + q .length + 32 ≤ q .lo + 192) ⌝ }
-    requires { ⌜ now list ≡ holdsOnly (length (now list)) [] ⌝ }
-    ensures number { λ r. ⌜ r ≡ length (listed (statesOf (tableOf (channel s (now (memory .entry))))) q) ⌝ }
-    ensures list { λ _. ⌜ now (list .exit) ≡ holdsOnly (length (now (list .entry))) (listed (statesOf (tableOf (channel s (now (memory .entry))))) q) ⌝ }
-{
-    let mut window = [0u8; 192];
-    look(
-        s.m1,
-        s.now,
-        s.count,
-        memory,
-        q.lo,
-        q.hi,
-        q.length,
-        q.wanted,
-        &mut window,
-        list,
-    )
-}
-
-// The same for one about a thousand.
-fn look_ahead(s: State, memory: &[u8], q: Query, list: &mut [u32]) -> usize
     requires { ⌜ WellAsked q (length (now list)) × (q .hi + q .length + 32 ≤ q .lo + 1152) ⌝ }
     requires { ⌜ now list ≡ holdsOnly (length (now list)) [] ⌝ }
     ensures number { λ r. ⌜ r ≡ length (listed (statesOf (tableOf (channel s (now (memory .entry))))) q) ⌝ }
     ensures list { λ _. ⌜ now (list .exit) ≡ holdsOnly (length (now (list .entry))) (listed (statesOf (tableOf (channel s (now (memory .entry))))) q) ⌝ }
 {
     let mut window = [0u8; 1152];
-    look(
-        s.m1,
-        s.now,
-        s.count,
-        memory,
-        q.lo,
-        q.hi,
-        q.length,
-        q.wanted,
-        &mut window,
-        list,
-    )
-}
-
-// The same for a superframe of the usual 4,500 slots.
-fn look_along(s: State, memory: &[u8], q: Query, list: &mut [u32]) -> usize
-    requires { ⌜ WellAsked q (length (now list)) × (q .hi + q .length + 32 ≤ q .lo + 4608) ⌝ }
-    requires { ⌜ now list ≡ holdsOnly (length (now list)) [] ⌝ }
-    ensures number { λ r. ⌜ r ≡ length (listed (statesOf (tableOf (channel s (now (memory .entry))))) q) ⌝ }
-    ensures list { λ _. ⌜ now (list .exit) ≡ holdsOnly (length (now (list .entry))) (listed (statesOf (tableOf (channel s (now (memory .entry))))) q) ⌝ }
-{
-    let mut window = [0u8; 4608];
     look(
         s.m1,
         s.now,
@@ -313,17 +254,8 @@ fn look_far(s: State, memory: &[u8], q: Query, list: &mut [u32]) -> usize
     ensures list { λ _. ⌜ now (list .exit) ≡ holdsOnly (length (now (list .entry))) (listed (statesOf (tableOf (channel s (now (memory .entry))))) q) ⌝ }
 {
     let asked = q.hi - q.lo + q.length;
-    if asked <= 32 {
-        return look_close(s, memory, q, list);
-    }
-    if asked <= 160 {
-        return look_near(s, memory, q, list);
-    }
     if asked <= 1120 {
-        return look_ahead(s, memory, q, list);
-    }
-    if asked <= 4576 {
-        return look_along(s, memory, q, list);
+        return look_near(s, memory, q, list);
     }
     let mut window = [0u8; 15423];
     look(
@@ -340,29 +272,52 @@ fn look_far(s: State, memory: &[u8], q: Query, list: &mut [u32]) -> usize
     )
 }
 
+// Whether a query's blocks lie wholly in the map's slots.
+fn is_inside(s: State, q: Query) -> bool
+    ensures { λ b. ⌜ b ≡ leb (q .hi + q .length) (s .now + s .m1) ⌝ }
+{
+    q.hi as u64 + q.length as u64 <= s.now as u64 + s.m1 as u64
+}
+
+// The same along the map where the blocks lie wholly in it, else along a window.
+fn look_in(s: State, memory: &[u8], map: &[u8], q: Query, list: &mut [u32]) -> usize
+    requires { ⌜ WellAsked q (length (now list)) × (s .now ≤ q .lo) × (q .hi - q .lo < s .m1) × (s .m1 ≤ 15360) × (isFresh (withMap s (now memory) (now map)) ≡ true) ⌝ }
+    requires { ⌜ now list ≡ holdsOnly (length (now list)) [] ⌝ }
+    ensures number { λ r. ⌜ r ≡ length (listed (statesOf (tableOf (channel s (now (memory .entry))))) q) ⌝ }
+    ensures list { λ _. ⌜ now (list .exit) ≡ holdsOnly (length (now (list .entry))) (listed (statesOf (tableOf (channel s (now (memory .entry))))) q) ⌝ }
+{
+    if is_inside(s, q) {
+        let mut later = [0u32; 16];
+        let at = (q.lo - s.now) as usize;
+        return scan(&map[at..], q, list, &mut later);
+    }
+    look_far(s, memory, q, list)
+}
+
 // Lists the first starts in lo..hi of a block that is free, then of one that has no taken slot, into a list that is wiped at each
-// call. Refused, in this order: 11, 19, 9, 20, 1, 21.
-pub fn search(s: State, memory: &[u8], q: Query, list: &mut [u32]) -> Found
-    ensures answer { λ r. ⌜ r ≡ searched (channel s (now (memory .entry))) q (length (now (list .entry))) ⌝ }
-    ensures list { λ _. ⌜ now (list .exit) ≡ listAfter (channel s (now (memory .entry))) q (length (now (list .entry))) ⌝ }
+// call. Refused, in this order: 11, 25, 19, 9, 20, 1, 21.
+pub fn search(s: State, memory: &[u8], map: &[u8], q: Query, list: &mut [u32]) -> Found
+    ensures answer { λ r. ⌜ r ≡ searched (withMap s (now (memory .entry)) (now (map .entry))) q (length (now (list .entry))) ⌝ }
+    ensures list { λ _. ⌜ now (list .exit) ≡ listAfter (withMap s (now (memory .entry)) (now (map .entry))) q (length (now (list .entry))) ⌝ }
 {
     wipe(list);
     let places = list.len();
-    if table::is_sound(s, memory) {
-        let n = ask(s, q, places);
-        if n != 0 {
-            return refuse(n);
-        }
-        let found = look_far(s, memory, q, list);
-        if found == 0 {
-            return refuse(21);
-        }
-        return Found {
-            refusal: 0,
-            number: found as u32,
-        };
+    let unfit = slotmap::refusal(s, memory, map);
+    if unfit != 0 {
+        return refuse(unfit);
     }
-    refuse(11)
+    let n = ask(s, q, places);
+    if n != 0 {
+        return refuse(n);
+    }
+    let found = look_in(s, memory, map, q, list);
+    if found == 0 {
+        return refuse(21);
+    }
+    Found {
+        refusal: 0,
+        number: found as u32,
+    }
 }
 
 // Which of the n found to use, by a number r. Refused 20 for n outside 1..16.

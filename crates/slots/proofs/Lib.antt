@@ -7,3 +7,5 @@ pub mod Lifted
 pub mod Numbers
 pub mod SoFar
 pub mod Window
+pub mod Parts
+pub mod Chosen

@@ -4,7 +4,7 @@ use native.Mathlib.Omega.{arith}
 use mathlib.Core.Path.{_≡_, refl}
 use mathlib.Core.Bool.{Bool, true, false, cond, _&&_, and-true}
 use mathlib.Core.List.{List, [], _∷_, _++_}
-use Rattle.octets.specs.Lists.{every}
+use Rattle.octets.specs.Lists.{keep, every}
 use Rattle.record.specs.declared.Rec.{Rec}
 use Rattle.series.specs.Series.{reserves}
 use Rattle.slots.specs.declared.Slot.{Slot}
@@ -48,6 +48,15 @@ module _ (m1 slot : ℕ) where
     where
       go : (b : Bool) → stateNumber (stateBy (cond b (r ∷ holders m1 rs slot) (holders m1 rs slot))) ≡ max (cond b (markOf (r .far)) 0) (stateNumber (stateBy (holders m1 rs slot)))
       go true = number-cons r (holders m1 rs slot)
+      go false = omega arith
+
+  -- a record before others of which those that pass a test are kept
+  pub number-keep-next : (p : Rec → Bool) (r : Rec) (rs : List Rec)
+      → slotStateNumber m1 (keep p (r ∷ rs)) slot ≡ max (cond (p r && reserves m1 r slot) (markOf (r .far)) 0) (slotStateNumber m1 (keep p rs) slot)
+  number-keep-next p r rs = go (p r)
+    where
+      go : (b : Bool) → slotStateNumber m1 (cond b (r ∷ keep p rs) (keep p rs)) slot ≡ max (cond (b && reserves m1 r slot) (markOf (r .far)) 0) (slotStateNumber m1 (keep p rs) slot)
+      go true = number-next r (keep p rs)
       go false = omega arith
 
   -- records before others

@@ -27,11 +27,13 @@ getD-windowStates m1 rs first (suc n) (suc i) h =
 -- ---- raised
 
 module _ (m1 : ℕ) (rs : List Rec) where
-  length-raised : (lo : ℕ) (xs : List ℕ) → length (raised m1 rs lo xs) ≡ length xs
+  -- as many as they were
+  pub length-raised : (lo : ℕ) (xs : List ℕ) → length (raised m1 rs lo xs) ≡ length xs
   unfolding raised
   length-raised lo [] = refl
   length-raised lo (x ∷ xs) = ap suc (length-raised (lo + 1) xs)
 
+  -- each to its slot's number
   getD-raised : (lo : ℕ) (xs : List ℕ) (i : ℕ) → i < length xs → getD (raised m1 rs lo xs) i 0 ≡ max (getD xs i 0) (slotStateNumber m1 rs (lo + i))
   unfolding raised
   getD-raised lo [] i h = absurd (omega arith)

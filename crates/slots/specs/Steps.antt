@@ -1,14 +1,18 @@
 -- What the private functions ask and promise: the code's own steps. Nothing that a caller of the crate has to believe.
 use Prim.Native.Nat.{ℕ, _+_, _-_, _*_, _/_, _≤_, _<_, max}
 use mathlib.Core.Path.{_≡_}
-use mathlib.Core.Bool.{Bool, false, cond, not, _&&_, _||_}
+use mathlib.Core.Bool.{Bool, true, false, cond, not, _&&_, _||_}
 use mathlib.Core.List.{List}
 use lib.Dec.{leb, ltb, eqb}
 use lib.ListN.{length, getD}
 use lib.Seq.{slice}
+use Rattle.octets.specs.Lists.{keep}
 use Rattle.record.specs.declared.Rec.{Rec}
 use Rattle.record.specs.Record.{allRecords}
 use Rattle.series.specs.Series.{someBelow, inBlock, hasFurther, furtherFrom, reserves}
+use Rattle.table.specs.Table.{ownedBy}
+use Rattle.slots.specs.declared.Part.{Part}
+use Rattle.slots.specs.declared.Part.the-variants.{All, From, Own, Others}
 use Rattle.slots.specs.declared.Series.{Series}
 use Rattle.slots.specs.declared.Superframes.{Superframes}
 use Rattle.slots.specs.declared.Bounds.{Bounds}
@@ -129,6 +133,35 @@ pub record WindowFits (lo end : ℕ) (out : List ℕ) : Type 0 where
 -- those of a memory from i up to n
 abbrev pub recordsFrom : ℕ → ℕ → List ℕ → List Rec
 recordsFrom i n m = slice i n (allRecords m)
+
+-- a record of a station, where those are left out, else one of another
+abbrev pub leftOut : ℕ → Bool → Rec → Bool
+leftOut station own r = cond own (ownedBy station r) (not (ownedBy station r))
+
+-- those that are not left out
+abbrev pub chosen : ℕ → Bool → List Rec → List Rec
+chosen station own rs = keep (λ r. not (leftOut station own r)) rs
+
+-- the place that a part begins at
+abbrev pub beginsAt : Part → ℕ
+beginsAt All = 0
+beginsAt (From k) = k
+beginsAt (Own s) = 0
+beginsAt (Others s) = 0
+
+-- the station that it asks about, one that no record is of where it asks about none
+abbrev pub asksAbout : Part → ℕ
+asksAbout All = 4294967296
+asksAbout (From k) = 4294967296
+asksAbout (Own s) = s
+asksAbout (Others s) = s
+
+-- whether that station's records are left out, or else the others'
+abbrev pub withoutOwn : Part → Bool
+withoutOwn All = true
+withoutOwn (From k) = true
+withoutOwn (Own s) = false
+withoutOwn (Others s) = true
 
 -- the first n octets are raised to the numbers of the slots from lo on
 pub record Raised (n m1 : ℕ) (rs : List Rec) (lo : ℕ) (xs ys : List ℕ) : Type 0 where

@@ -2,18 +2,18 @@
 use record::Rec;
 use table::State;
 ghost use mathlib.Core.Path.{_≡_};
-ghost use mathlib.Core.Bool.{true, cond, _&&_};
+ghost use mathlib.Core.Bool.{true, cond, not, _&&_};
 ghost use Prim.Native.Nat.{ℕ, _+_, _-_, _*_, _/_, _≤_, _<_, min, max};
 ghost use lib.Dec.{leb, ltb};
-ghost use lib.ListN.{length as len};
+ghost use lib.ListN.{length as len, drop};
 ghost use Rattle.octets.specs.Octets.{zeroFrom, holdsOnly};
 ghost use Rattle.record.specs.Record.{capacity};
 ghost use Rattle.series.specs.Series.{inBlock, reserves};
 ghost use Rattle.sound.specs.Sound.{records};
 ghost use Rattle.table.specs.Memory.{channel};
 ghost use Rattle.slots.specs.Slots.{slotState, slotAnswer};
-ghost use Rattle.slots.specs.Window.{windowStates, windowSlots, raised};
-ghost use Rattle.slots.specs.Steps.{holdsMore, markOf, firstHold, holds, holdsBefore, after, Few, Between, heldLeft, heldLifted, recordsFrom, Small, Skips, Left, MarkedWhere, fromUpTo, WindowFits, Raised, AtLeast};
+ghost use Rattle.slots.specs.Window.{windowStates, windowSlots, raised, partOf};
+ghost use Rattle.slots.specs.Steps.{holdsMore, markOf, firstHold, holds, holdsBefore, after, Few, Between, heldLeft, heldLifted, recordsFrom, leftOut, chosen, beginsAt, asksAbout, withoutOwn, Small, Skips, Left, MarkedWhere, fromUpTo, WindowFits, Raised, AtLeast};
 ghost use Rattle.slots.specs.Claims.{Claims};
 
 // A slot's state.
@@ -27,6 +27,14 @@ pub enum Slot {
 pub enum SlotAnswer {
     Is(Slot),
     Refused(u32),
+}
+
+// Some of a table's records: all, those from a place on, those of a station, those of the other stations.
+pub enum Part {
+    All,
+    From(u32),
+    Own(u32),
+    Others(u32),
 }
 
 // Blocks of so many slots, one after the other at a spacing.
@@ -482,11 +490,31 @@ fn mark_record(out: &mut [u8], lo: u64, end: u64, m1: u32, r: Rec)
 
 // ---- the slot states of a window
 
-// Marks the slots that a record reserves, unless it is far and no slot is free: it changes nothing then.
-fn mark_needed(out: &mut [u8], lo: u64, end: u64, m1: u32, r: Rec, full: bool)
-    requires { ⌜ WindowFits lo end (now out) × (lo ≤ 4294967295) × (full ≡ true → AtLeast (end - lo) 1 (now out)) ⌝ }
-    ensures { λ _. ⌜ MarkedWhere (end - lo) (markOf (r .far)) (λ i. reserves m1 r (lo + i)) (now (out .entry)) (now (out .exit)) ⌝ }
+// Whether a record is left out: where `own` is left out, one of the station, else one of another. No record is of a station of 33 bits.
+fn left_out(r: Rec, station: u64, own: bool) -> bool
+    ensures { λ b. ⌜ b ≡ leftOut station own r ⌝ }
 {
+    let mine = r.station as u64 == station;
+    mine == own
+}
+
+// Marks the slots that a record reserves, unless it is left out, or is far and no slot is free: it changes nothing then.
+fn mark_needed(
+    out: &mut [u8],
+    lo: u64,
+    end: u64,
+    m1: u32,
+    r: Rec,
+    station: u64,
+    own: bool,
+    full: bool,
+)
+    requires { ⌜ WindowFits lo end (now out) × (lo ≤ 4294967295) × (full ≡ true → AtLeast (end - lo) 1 (now out)) ⌝ }
+    ensures { λ _. ⌜ MarkedWhere (end - lo) (markOf (r .far)) (λ i. not (leftOut station own r) && reserves m1 r (lo + i)) (now (out .entry)) (now (out .exit)) ⌝ }
+{
+    if left_out(r, station, own) {
+        return;
+    }
     let far = r.far == 1;
     if full & far {
         return;
@@ -494,7 +522,7 @@ fn mark_needed(out: &mut [u8], lo: u64, end: u64, m1: u32, r: Rec, full: bool)
     mark_record(out, lo, end, m1, r);
 }
 
-// Marks the slots that the records from i up to n reserve.
+// Marks the slots that the records from i up to n reserve, but those that are left out.
 fn mark_some(
     out: &mut [u8],
     lo: u64,
@@ -503,14 +531,25 @@ fn mark_some(
     memory: &[u8],
     i: usize,
     n: usize,
+    station: u64,
+    own: bool,
     full: bool,
 )
     requires { ⌜ WindowFits lo end (now out) × (lo ≤ 4294967295) × (n ≤ capacity (now memory)) × (full ≡ true → AtLeast (end - lo) 1 (now out)) ⌝ }
-    ensures { λ _. ⌜ Raised (end - lo) m1 (recordsFrom i n (now (memory .entry))) lo (now (out .entry)) (now (out .exit)) ⌝ }
+    ensures { λ _. ⌜ Raised (end - lo) m1 (chosen station own (recordsFrom i n (now (memory .entry)))) lo (now (out .entry)) (now (out .exit)) ⌝ }
 {
     let mut k = i;
     while k < n {
-        mark_needed(out, lo, end, m1, record::load(memory, k), full);
+        mark_needed(
+            out,
+            lo,
+            end,
+            m1,
+            record::load(memory, k),
+            station,
+            own,
+            full,
+        );
         k += 1;
     }
 }
@@ -530,20 +569,41 @@ fn first_below(out: &[u8], from: usize, n: usize, mark: u8) -> usize
     n
 }
 
-// Marks the first n octets by the records held, sixteen at a time. Once every slot is taken, no other record changes one.
-fn mark_records(out: &mut [u8], n: usize, s: State, memory: &[u8], first: u32)
+// Marks the first n octets by the records held from a place on, but those that are left out, sixteen at a time. Once every slot is taken, no
+// other record changes one.
+fn mark_records(
+    out: &mut [u8],
+    n: usize,
+    s: State,
+    memory: &[u8],
+    first: u32,
+    from: usize,
+    station: u64,
+    own: bool,
+)
     requires { ⌜ n + 32 ≤ len (now out) ⌝ }
-    ensures { λ _. ⌜ Raised n (s .m1) (records (channel s (now (memory .entry)))) first (now (out .entry)) (now (out .exit)) ⌝ }
+    ensures { λ _. ⌜ Raised n (s .m1) (chosen station own (drop from (records (channel s (now (memory .entry)))))) first (now (out .entry)) (now (out .exit)) ⌝ }
 {
     let lo = first as u64;
     let end = lo + n as u64;
     let held = record::held_count(memory, s.count as usize);
     let mut taken = 0;
     let mut reserved = 0;
-    let mut i = 0;
+    let mut i = from;
     while i < held {
         let next = lesser(i as u64 + 16, held as u64) as usize;
-        mark_some(out, lo, end, s.m1, memory, i, next, reserved == n);
+        mark_some(
+            out,
+            lo,
+            end,
+            s.m1,
+            memory,
+            i,
+            next,
+            station,
+            own,
+            reserved == n,
+        );
         i = next;
         if i < held {
             taken = first_below(out, taken, n, 2);
@@ -555,17 +615,62 @@ fn mark_records(out: &mut [u8], n: usize, s: State, memory: &[u8], first: u32)
     }
 }
 
-// Raises each octet of a window to the number of its slot's state: out is the window, which begins at the slot first, and behind it 32 octets
-// of room, which a block that overhangs the window is marked into. They are 0 afterwards.
-pub fn raise(s: State, memory: &[u8], first: u32, out: &mut [u8])
-    ensures { λ _. ⌜ now (out .exit) ≡ zeroFrom (windowSlots (now (out .entry))) (raised (s .m1) (records (channel s (now (memory .entry)))) first (now (out .entry))) ⌝ }
+// The place that a part begins at.
+fn begins_at(part: Part) -> usize
+    ensures { λ k. ⌜ k ≡ beginsAt part ⌝ }
+{
+    match part {
+        Part::All => 0,
+        Part::From(k) => k as usize,
+        Part::Own(station) => 0,
+        Part::Others(station) => 0,
+    }
+}
+
+// The station that a part asks about; one of 33 bits, which no record is of, where it asks about none.
+fn asks_about(part: Part) -> u64
+    ensures { λ n. ⌜ n ≡ asksAbout part ⌝ }
+{
+    match part {
+        Part::All => 4294967296,
+        Part::From(k) => 4294967296,
+        Part::Own(station) => station as u64,
+        Part::Others(station) => station as u64,
+    }
+}
+
+// Whether that station's records are left out, or else the others'.
+fn without_own(part: Part) -> bool
+    ensures { λ b. ⌜ b ≡ withoutOwn part ⌝ }
+{
+    match part {
+        Part::All => true,
+        Part::From(k) => true,
+        Part::Own(station) => false,
+        Part::Others(station) => true,
+    }
+}
+
+// Raises each octet of a window to the number of its slot's state by a part of the records: out is the window, which begins at the slot first, and
+// behind it 32 octets of room, which a block that overhangs the window is marked into. They are 0 afterwards.
+pub fn raise(s: State, memory: &[u8], part: Part, first: u32, out: &mut [u8])
+    ensures { λ _. ⌜ now (out .exit) ≡ zeroFrom (windowSlots (now (out .entry))) (raised (s .m1) (partOf part (records (channel s (now (memory .entry))))) first (now (out .entry))) ⌝ }
 {
     if out.len() < 32 {
         octets::clear_from(out, 0);
         return;
     }
     let n = out.len() - 32;
-    mark_records(out, n, s, memory, first);
+    mark_records(
+        out,
+        n,
+        s,
+        memory,
+        first,
+        begins_at(part),
+        asks_about(part),
+        without_own(part),
+    );
     octets::clear_from(out, n);
 }
 
@@ -574,7 +679,7 @@ pub fn states(s: State, memory: &[u8], first: u32, out: &mut [u8])
     ensures { λ _. ⌜ now (out .exit) ≡ holdsOnly (len (now (out .entry))) (windowStates (s .m1) (records (channel s (now (memory .entry)))) first (windowSlots (now (out .entry)))) ⌝ }
 {
     octets::clear_from(out, 0);
-    raise(s, memory, first, out);
+    raise(s, memory, Part::All, first, out);
 }
 
 // What this crate claims over its promises.

@@ -137,29 +137,50 @@ pub fn parameter(number: u32, figure: u32) -> u32 {
     unsafe { gemthatch_parameter(number, figure) }
 }
 
-pub fn open(memory: &mut Lent, m1: u32) -> Result<u32, String> {
-    alike(memory, |memory, octets| {
-        // SAFETY: so many octets are lent for the time of the call.
-        unsafe { gemthatch_open(memory, octets, m1) }
+/// Memory and map lent to a call that may change them.
+fn both(
+    memory: &mut Lent,
+    map: &mut Lent,
+    mut call: impl FnMut(*mut u8, usize, *mut u8, usize) -> u32,
+) -> Result<u32, String> {
+    alike(map, |map, map_octets| {
+        alike(memory, |memory, octets| {
+            call(memory, octets, map, map_octets)
+        })
+    })?
+}
+
+pub fn open(memory: &mut Lent, map: &mut Lent, m1: u32) -> Result<u32, String> {
+    both(memory, map, |memory, octets, map, map_octets| {
+        // SAFETY: so many octets are lent for the time of the call, and the two
+        // slices lie apart.
+        unsafe { gemthatch_open(memory, octets, map, map_octets, m1) }
     })
 }
 
-pub fn clock(memory: &mut Lent, state: State, slot: u32) -> Result<u32, String> {
+pub fn clock(memory: &mut Lent, map: &mut Lent, state: State, slot: u32) -> Result<u32, String> {
     let State { m1, now, count } = state;
-    alike(memory, |memory, octets| {
-        // SAFETY: so many octets are lent for the time of the call.
-        unsafe { gemthatch_clock(memory, octets, m1, now, count, slot) }
+    both(memory, map, |memory, octets, map, map_octets| {
+        // SAFETY: as in open.
+        unsafe { gemthatch_clock(memory, octets, map, map_octets, m1, now, count, slot) }
     })
 }
 
-pub fn reserve(memory: &mut Lent, state: State, asked: &Reservation) -> Result<u32, String> {
+pub fn reserve(
+    memory: &mut Lent,
+    map: &mut Lent,
+    state: State,
+    asked: &Reservation,
+) -> Result<u32, String> {
     let State { m1, now, count } = state;
-    alike(memory, |memory, octets| {
-        // SAFETY: so many octets are lent for the time of the call.
+    both(memory, map, |memory, octets, map, map_octets| {
+        // SAFETY: as in open.
         unsafe {
             gemthatch_reserve(
                 memory,
                 octets,
+                map,
+                map_octets,
                 m1,
                 now,
                 count,
@@ -178,14 +199,21 @@ pub fn reserve(memory: &mut Lent, state: State, asked: &Reservation) -> Result<u
     })
 }
 
-pub fn distance(memory: &mut Lent, state: State, told: &Measure) -> Result<u32, String> {
+pub fn distance(
+    memory: &mut Lent,
+    map: &mut Lent,
+    state: State,
+    told: &Measure,
+) -> Result<u32, String> {
     let State { m1, now, count } = state;
-    alike(memory, |memory, octets| {
-        // SAFETY: so many octets are lent for the time of the call.
+    both(memory, map, |memory, octets, map, map_octets| {
+        // SAFETY: as in open.
         unsafe {
             gemthatch_distance(
                 memory,
                 octets,
+                map,
+                map_octets,
                 m1,
                 now,
                 count,
@@ -199,22 +227,38 @@ pub fn distance(memory: &mut Lent, state: State, told: &Measure) -> Result<u32, 
     })
 }
 
-pub fn wipe(memory: &mut Lent, state: State, station: u32) -> Result<u32, String> {
+pub fn wipe(memory: &mut Lent, map: &mut Lent, state: State, station: u32) -> Result<u32, String> {
     let State { m1, now, count } = state;
-    alike(memory, |memory, octets| {
-        // SAFETY: so many octets are lent for the time of the call.
-        unsafe { gemthatch_wipe(memory, octets, m1, now, count, station) }
+    both(memory, map, |memory, octets, map, map_octets| {
+        // SAFETY: as in open.
+        unsafe { gemthatch_wipe(memory, octets, map, map_octets, m1, now, count, station) }
     })
 }
 
 /// The log record is lent inside guards of its own.
-pub fn replay_step(memory: &mut Lent, state: State, entry: &[u8]) -> Result<u32, String> {
+pub fn replay_step(
+    memory: &mut Lent,
+    map: &mut Lent,
+    state: State,
+    entry: &[u8],
+) -> Result<u32, String> {
     let State { m1, now, count } = state;
     unchanged(&mut Lent::holding(entry), |entry, entry_octets| {
-        alike(memory, |memory, octets| {
-            // SAFETY: so many octets are lent for the time of the call, and
-            // the two slices lie apart.
-            unsafe { gemthatch_replay_step(memory, octets, m1, now, count, entry, entry_octets) }
+        both(memory, map, |memory, octets, map, map_octets| {
+            // SAFETY: as in open, and so does the third.
+            unsafe {
+                gemthatch_replay_step(
+                    memory,
+                    octets,
+                    map,
+                    map_octets,
+                    m1,
+                    now,
+                    count,
+                    entry,
+                    entry_octets,
+                )
+            }
         })
     })?
 }
@@ -229,32 +273,40 @@ pub fn slot_state(memory: &mut Lent, state: State, slot: u32) -> Result<u32, Str
 
 pub fn search(
     memory: &mut Lent,
+    map: &mut Lent,
     state: State,
     wish: &Wish,
     list: &mut Lent,
 ) -> Result<u32, String> {
     let State { m1, now, count } = state;
+    let call = |memory, octets, map, map_octets, list, list_octets| {
+        // SAFETY: so many octets are lent for the time of the call, and the
+        // three slices lie apart.
+        unsafe {
+            gemthatch_search(
+                memory,
+                octets,
+                map,
+                map_octets,
+                m1,
+                now,
+                count,
+                wish.lo,
+                wish.hi,
+                wish.length,
+                wish.wanted,
+                list,
+                list_octets,
+            )
+        }
+    };
     unchanged(memory, |memory, octets| {
-        alike(list, |list, list_octets| {
-            // SAFETY: so many octets are lent for the time of the call, and
-            // the two slices lie apart.
-            unsafe {
-                gemthatch_search(
-                    memory,
-                    octets,
-                    m1,
-                    now,
-                    count,
-                    wish.lo,
-                    wish.hi,
-                    wish.length,
-                    wish.wanted,
-                    list,
-                    list_octets,
-                )
-            }
+        unchanged(map, |map, map_octets| {
+            alike(list, |list, list_octets| {
+                call(memory, octets, map, map_octets, list, list_octets)
+            })
         })
-    })?
+    })??
 }
 
 pub fn pick(n: u32, r: u32) -> u32 {

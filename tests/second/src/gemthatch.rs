@@ -70,10 +70,18 @@ extern "C" {
     pub fn gemthatch_write(block: Block) -> Writing;
     pub fn gemthatch_rate(rates: *const u8, entries: usize, code: u32) -> u32;
     pub fn gemthatch_parameter(number: u32, figure: u32) -> u32;
-    pub fn gemthatch_open(memory: *mut u8, octets: usize, m1: u32) -> u32;
+    pub fn gemthatch_open(
+        memory: *mut u8,
+        octets: usize,
+        map: *mut u8,
+        map_octets: usize,
+        m1: u32,
+    ) -> u32;
     pub fn gemthatch_clock(
         memory: *mut u8,
         octets: usize,
+        map: *mut u8,
+        map_octets: usize,
         m1: u32,
         now: u32,
         count: u32,
@@ -82,6 +90,8 @@ extern "C" {
     pub fn gemthatch_reserve(
         memory: *mut u8,
         octets: usize,
+        map: *mut u8,
+        map_octets: usize,
         m1: u32,
         now: u32,
         count: u32,
@@ -99,6 +109,8 @@ extern "C" {
     pub fn gemthatch_distance(
         memory: *mut u8,
         octets: usize,
+        map: *mut u8,
+        map_octets: usize,
         m1: u32,
         now: u32,
         count: u32,
@@ -111,6 +123,8 @@ extern "C" {
     pub fn gemthatch_wipe(
         memory: *mut u8,
         octets: usize,
+        map: *mut u8,
+        map_octets: usize,
         m1: u32,
         now: u32,
         count: u32,
@@ -119,6 +133,8 @@ extern "C" {
     pub fn gemthatch_replay_step(
         memory: *mut u8,
         octets: usize,
+        map: *mut u8,
+        map_octets: usize,
         m1: u32,
         now: u32,
         count: u32,
@@ -136,6 +152,8 @@ extern "C" {
     pub fn gemthatch_search(
         memory: *const u8,
         octets: usize,
+        map: *const u8,
+        map_octets: usize,
         m1: u32,
         now: u32,
         count: u32,

@@ -23,7 +23,8 @@ use std::process::ExitCode;
 use report::Report;
 
 const USAGE: &str = "usage: second archive | second listing PATH | second replay REPLAY MOMENT | \
-                     second bench-calls | second bench-listing PATH PEER | \
+                     second bench-calls [WORD] (the calls with WORD in their name) | \
+                     second bench-load | second bench-listing PATH PEER | \
                      second bench-replay REPLAY PEER";
 
 /// A path that names the same file whatever the search path says.
@@ -50,7 +51,9 @@ fn main() -> ExitCode {
             calls::check(&mut report);
             report.close()
         }
-        ["bench-calls"] => bench::calls(),
+        ["bench-calls"] => bench::calls(""),
+        ["bench-calls", word] => bench::calls(word),
+        ["bench-load"] => bench::load(),
         ["bench-listing", path, peer] => bench::listing(&program(path), &program(peer)),
         ["bench-replay", replay, peer] => bench::replay(&program(replay), &program(peer)),
         ["write-singly", count] => {

@@ -447,7 +447,7 @@ fn damaged_logs(replay: &Subject, moment: &Subject) -> Verdict {
 
 /// A log cut after so many records shows the first lines of the whole one, and
 /// the table then. That table is held against our own steps on octets too, each
-/// of which tests the whole of it.
+/// of which tests the whole of it and of its map.
 fn cut_short(replay: &Subject, moment: &Subject) -> Verdict {
     let mut draw = Draw::from_seed(1103);
     let mut records = 0;
@@ -458,7 +458,7 @@ fn cut_short(replay: &Subject, moment: &Subject) -> Verdict {
         for k in 0..=lines.len() {
             let cut = &log[..log.len().min(k * ENTRY)];
             if let Some(last) = cut.chunks(ENTRY).next_back() {
-                after = log::step(&after.memory, after.state, last);
+                after = log::step(&after.memory, &after.map, after.state, last);
             }
             let table = Table::held(&after.memory, after.state)
                 .map_err(|refusal| format!("our own steps leave a table refused {refusal}"))?;

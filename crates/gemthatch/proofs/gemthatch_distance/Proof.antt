@@ -1,27 +1,31 @@
--- `gemthatch::gemthatch_distance` meets its contract: what the table's distance answers, as one number. Assumes nothing.
-use mathlib.Core.Path.{refl, ap, _∙_}
+-- `gemthatch::gemthatch_distance` meets its contract: what the distance with a map answers, as one number. Assumes nothing.
+use mathlib.Core.Path.{refl, _∙_}
 use denote.Ref.{now}
 use borrow.Author.Needs.{needs}
-use Rattle.distance.specs.declared.Distance.{Distance}
-use Rattle.sound.specs.Sound.{Channel}
+use Rattle.distance.specs.Distances.{distanceOf}
 use Rattle.table.specs.Table.{Call, distance}
-use Rattle.table.specs.Memory.{leaves}
-use Rattle.gemthatch.specs.OverC.{lent, callNumber}
+use Rattle.slotmap.specs.Map.{Mapped, MapGives}
+use Rattle.gemthatch.specs.OverC.{lentMap}
 use Rattle.gemthatch.proofs.Most.{returned-most, returned-callNumber}
 use Rattle.gemthatch.proofs.gemthatch_distance.Statement.{statement}
 use Rattle.gemthatch.proofs.gemthatch_distance.Tie as tie
 
 -- ---- what is known at a place
 
-module _ (c : tie.After-distance-of) where
-  abbrev given : Channel
-  given =
-      let a = c .before .before .args in
-      lent (a .m1) (a .time) (a .count) (now (a .memory))
+module _ (c : tie.After-distance) where
+  abbrev entry : tie.Start
+  entry = c .before .before .before .before .before .before
 
-  -- the call, by its distance
-  abbrev call : Distance → Call
-  call d = distance (c .before .before .args .station) d (c .before .before .args .limit)
+  abbrev given : Mapped
+  given = lentMap (entry .args .m1) (entry .args .time) (entry .args .count) (now (entry .args .memory)) (now (entry .args .map))
+
+  abbrev call : Call
+  call =
+      let a = entry .args in
+      distance (a .station) (distanceOf (a .kind) (a .a) (a .b)) (a .limit)
+
+  gives : MapGives given call (c .distance .result) (c .distance .last .1 .0) (c .distance .last .1 .1 .0)
+  gives = rw (c .before .before .before .distance-of .ensures) at (c .distance .ensures)
 
 -- ---- the needs
 
@@ -32,25 +36,19 @@ distance-requires : tie.Need-distance-requires
 distance-requires c κs = search needs
 
 over-c-requires : tie.Need-over-c-requires
-over-c-requires c κs =
-    let x = c .before .before .before .before in
-    let k = c .before .before .distance in
-    returned-most (k .result) (given x) (call x (x .distance-of .result)) (k .ensures .result) refl
+over-c-requires c κs = let k = c .before .before .before .before in returned-most (k .distance .result) (given k) (call k) (gives k .result) refl
 
 same-length : tie.Need-same-length
-same-length c = c .before .before .before .distance .kept .1 .0
+same-length c = search needs
+
+same-length-2 : tie.Need-same-length-2
+same-length-2 c = search needs
 
 returns : tie.Need-returns
 returns c =
-    let x = c .before .before .before .before .before in
-    let k = c .before .before .before .distance in
-    let e = x .distance-of .ensures in (
-      c .over-c .ensures
-          ∙ returned-callNumber (k .result) (given x) (call x (x .distance-of .result)) (k .ensures .result)
-          ∙ ap (λ d. callNumber (given x) (call x d)) e,
-      k .ensures .octets ∙ ap (λ d. leaves (given x) (call x d) .memory) e,
-    )
+    let k = c .before .before .before .before .before in
+    (c .over-c .ensures ∙ returned-callNumber (k .distance .result) (given k) (call k) (gives k .result), (gives k .octets, gives k .left))
 
 pub gemthatch-distance-spec : {M : Type 1} → statement M
 gemthatch-distance-spec =
-    tie.close (tie.spec distance-of-requires distance-requires over-c-requires same-length returns)
+    tie.close (tie.spec distance-of-requires distance-requires over-c-requires same-length same-length-2 returns)

@@ -7,12 +7,12 @@ use denote.Ref.{now}
 use lib.ListN.{length, take}
 use borrow.Author.Needs.{needs}
 use Rattle.octets.specs.Octets.{holdsOnly}
-use Rattle.sound.specs.Sound.{Channel}
+use Rattle.slotmap.specs.Map.{Mapped}
 use Rattle.search.specs.declared.Query.{Query}
 use Rattle.search.specs.declared.Found.{Found}
 use Rattle.search.specs.Search.{found, searched}
 use Rattle.search.proofs.Answers.{found-fits}
-use Rattle.gemthatch.specs.OverC.{overC, lent, query, searchNumber, inOctets, searchList}
+use Rattle.gemthatch.specs.OverC.{overC, lentMap, query, searchNumber, inOctets, searchList}
 use Rattle.gemthatch.proofs.Most.{search-most}
 use Rattle.gemthatch.proofs.gemthatch_search.Statement.{statement}
 use Rattle.gemthatch.proofs.gemthatch_search.Tie as tie
@@ -24,10 +24,10 @@ module _ (c : tie.After-search-places) where
   at-clear = c .before .before .before .before
 
   abbrev entry : tie.Start
-  entry = at-clear .before .before .before .before
+  entry = at-clear .before .before .before .before .before
 
-  abbrev given : Channel
-  given = lent (entry .args .m1) (entry .args .time) (entry .args .count) (now (entry .args .memory))
+  abbrev given : Mapped
+  given = lentMap (entry .args .m1) (entry .args .time) (entry .args .count) (now (entry .args .memory)) (now (entry .args .map))
 
   abbrev asked : Query
   asked = query (entry .args .lo) (entry .args .hi) (entry .args .length) (entry .args .wanted)
@@ -42,7 +42,7 @@ module _ (c : tie.After-search-places) where
   answered : c .search-places .result ≡ searched given asked (octets / 4)
   answered = c .search-places .ensures .0 ∙ ap (λ n. searched given asked (n / 4)) same-octets
 
-  starts-found : take (c .search-places .result .number) (c .search-places .last .1 .1 .1 .0) ≡ found given asked (octets / 4)
+  starts-found : take (c .search-places .result .number) (c .search-places .last .1 .1 .1 .1 .0) ≡ found given asked (octets / 4)
   starts-found = c .search-places .ensures .1 ∙ ap (λ n. found given asked (n / 4)) same-octets
 
 -- ---- the needs
@@ -69,7 +69,7 @@ put-numbers-requires c κs =
     let n : x .search-places .result .number ≡ length (found (given x) (asked x) (octets x / 4)) = ap (λ (f : Found). f .number) (answered x) in
     let fits = found-fits (given x) (asked x) (octets x / 4) in
     let l = same-octets x in
-    let k = x .search-places .kept .1 .1 .1 .0 in
+    let k = x .search-places .kept .1 .1 .1 .1 .0 in
     ((omega arith, omega arith), at-clear x .clear-from .ensures ∙ ap (λ i. holdsOnly i []) (sym l))
 
 over-c-requires : tie.Need-over-c-requires
@@ -86,7 +86,7 @@ returns c =
     let x = c .before .before .before .before .before .before .before .before in
     let p = c .before .before .before .put-numbers in (
       c .over-c .ensures ∙ ap (λ (f : Found). overC (f .refusal) (f .number)) (answered x),
-      p .ensures ∙ ap (λ i. holdsOnly i (inOctets (take (x .search-places .result .number) (x .search-places .last .1 .1 .1 .0)))) (same-octets x)
+      p .ensures ∙ ap (λ i. holdsOnly i (inOctets (take (x .search-places .result .number) (x .search-places .last .1 .1 .1 .1 .0)))) (same-octets x)
           ∙ ap (λ ns. holdsOnly (octets x) (inOctets ns)) (starts-found x),
     )
 

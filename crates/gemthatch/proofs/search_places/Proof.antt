@@ -9,8 +9,7 @@ use lib.Dec.{ltb}
 use lib.ListN.{length, take}
 use borrow.Author.Needs.{needs}
 use borrow.Author.Tests.{lt-ltb, le-ltb}
-use Rattle.sound.specs.Sound.{Channel}
-use Rattle.table.specs.Memory.{channel}
+use Rattle.slotmap.specs.Map.{Mapped, withMap}
 use Rattle.search.specs.declared.Found.{Found}
 use Rattle.search.specs.Search.{searchRefusal, found, searched}
 use Rattle.search.proofs.Asked.{refused-gives}
@@ -22,10 +21,10 @@ use Rattle.gemthatch.proofs.search_places.Tie as tie
 
 module _ (c : tie.After-search) where
   abbrev entry : tie.Start
-  entry = c .before .before .before .before
+  entry = c .before .before .before .before .before
 
-  abbrev given : Channel
-  given = channel (entry .args .s) (now (entry .args .memory))
+  abbrev given : Mapped
+  given = withMap (entry .args .s) (now (entry .args .memory)) (now (entry .args .map))
 
   abbrev all : ℕ
   all = length (now (entry .args .starts))
@@ -49,12 +48,12 @@ module _ (c : tie.After-search) where
   -- else the answer is the search's
   enough : short (c .search .result .refusal) ≡ false
       → (c .search .result ≡ searched given (entry .args .q) (entry .args .places))
-      × (take (c .search .result .number) (c .search .last .1 .1 .1 .0) ≡ found given (entry .args .q) (entry .args .places))
+      × (take (c .search .result .number) (c .search .last .1 .1 .1 .1 .0) ≡ found given (entry .args .q) (entry .args .places))
   enough k =
       let a = entry .args in
       let r = c .search .ensures .0 in (
         r ∙ searched-alike given (a .q) all (a .places) (omega arith) (same ∙ k),
-        found-front given (a .q) all (c .search .result) (c .search .last .1 .1 .1 .0) r (c .search .ensures .1)
+        found-front given (a .q) all (c .search .result) (c .search .last .1 .1 .1 .1 .0) r (c .search .ensures .1)
             ∙ found-alike given (a .q) all (a .places) (omega arith) (same ∙ k),
       )
 

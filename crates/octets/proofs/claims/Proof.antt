@@ -1,6 +1,7 @@
 -- `octets::claims` promises what the laws prove. Assumes nothing.
 use Rattle.octets.proofs.Octets.{number-little, little-number, length-little, are-octets-little, number-bound, numberAt-putAt}
 use Rattle.octets.proofs.Complement.{signedOf-twosOf, twosOf-signedOf, beyond127-signedOf, lifted-signedOf}
+use Rattle.octets.proofs.SameOctets.{sameOctets-iff}
 use Rattle.octets.proofs.claims.Statement.{statement}
 use Rattle.octets.proofs.claims.Tie as tie
 
@@ -17,6 +18,7 @@ returns c =
       signed-is-twos = twosOf-signedOf;
       only-128 = beyond127-signedOf;
       lifted-is-signed = lifted-signedOf;
+      same-octets = sameOctets-iff;
     }
 
 pub claims-spec : {M : Type 1} → statement M

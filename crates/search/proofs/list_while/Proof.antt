@@ -1,15 +1,11 @@
 -- `search::list_while` meets its contract: a start for each number listed so far, and the slots behind their blocks have the state.
 -- Assumes nothing.
-use Prim.Native.Nat.{_-_, _+_, _≤_}
+use Prim.Native.Nat.{_-_, _+_, _<_, _≤_}
 use native.Mathlib.Omega.{arith}
 use mathlib.Core.Path.{_≡_, refl, _∙_}
-use mathlib.Core.Bool.{not}
 use denote.Ref.{now}
-use lib.Dec.{eqb}
-use lib.ListN.{length, getD, set, length-set}
+use lib.ListN.{length, set, length-set}
 use borrow.Author.Needs.{needs}
-use borrow.Author.Tests.{eqb-true, eqb-false, not-false}
-use Rattle.octets.proofs.Refusals.{or-eq-false}
 use Rattle.search.specs.Steps.{BehindAre, ListedOn}
 use Rattle.search.proofs.Filled.{listed-on-none, listed-on-next}
 use Rattle.search.proofs.Behind.{behind-next}
@@ -40,6 +36,18 @@ listed c =
     let a = entry (c .before) .args in
     listed-on-next (a .start) (a .n) (l .k) (l .inv .2) (l .inv .0 .2) (l .inv .0 .0) (omega (arith, c .loop-test .taken)) (entry (c .before) .pre .1 .1)
 
+-- and it is the last
+stops : (c : tie.In-loop Inv-loop μ-loop)
+    → let l = c .before .loop in
+    let a = entry (c .before) .args in
+    ((a .n < l .k + 1) × (l .k + 1 ≤ a .q .wanted) × (a .start + (l .k + 1 - a .n) ≤ a .q .hi + 1))
+    × (BehindAre (now (a .states)) (a .q) (a .state) (a .start) (a .start + (l .k + 1 - a .n))
+    × ListedOn (length (now (a .list))) (a .q .wanted) (a .start) (a .n) (l .k + 1) (now (a .list)) (set (l .list) (l .k) (l .s)))
+stops c =
+    let l = c .before .loop in
+    let e = l .inv .0 in
+    ((omega arith, omega (arith, c .loop-test .taken), omega arith), (λ t a b. l .inv .1 t a (omega arith), listed c))
+
 -- ---- the needs
 
 cast-length : tie.Need-cast-length Inv-loop μ-loop
@@ -62,28 +70,29 @@ slice-write-list c = search needs
 add-k : tie.Need-add-k Inv-loop μ-loop
 add-k c = search needs
 
-sub-if1 : tie.Need-sub-if1 Inv-loop μ-loop
-sub-if1 c = search needs
-
-cast-if1 : tie.Need-cast-if1 Inv-loop μ-loop
-cast-if1 c = search needs
-
-add-if1 : tie.Need-add-if1 Inv-loop μ-loop
-add-if1 c = search needs
-
-shared-slice-read-if1 : tie.Need-shared-slice-read-if1 Inv-loop μ-loop
-shared-slice-read-if1 c = search needs
-
 same-length : tie.Need-same-length Inv-loop μ-loop
 same-length c = search needs
 
 returns : tie.Need-returns Inv-loop μ-loop
-returns c =
-    let x = c .before .before .before .before in
-    let l = x .before .loop in (
-      (omega arith, omega arith, omega arith),
-      (λ t a b. l .inv .1 t a (omega arith), listed x),
-    )
+returns c = stops (c .before .before)
+
+sub-if2 : tie.Need-sub-if2 Inv-loop μ-loop
+sub-if2 c = search needs
+
+cast-if2 : tie.Need-cast-if2 Inv-loop μ-loop
+cast-if2 c = search needs
+
+add-if2 : tie.Need-add-if2 Inv-loop μ-loop
+add-if2 c = search needs
+
+shared-slice-read-if2 : tie.Need-shared-slice-read-if2 Inv-loop μ-loop
+shared-slice-read-if2 c = search needs
+
+same-length-2 : tie.Need-same-length-2 Inv-loop μ-loop
+same-length-2 c = search needs
+
+returns-2 : tie.Need-returns-2 Inv-loop μ-loop
+returns-2 c = stops (c .before .before .before .before .before)
 
 add-s : tie.Need-add-s Inv-loop μ-loop
 add-s c = search needs
@@ -93,23 +102,20 @@ loop-less c = search needs
 
 loop-again : tie.Need-loop-again Inv-loop μ-loop
 loop-again c =
-    let x = c .before .before .before .before in
+    let x = c .before .before .before .before .before in
     let l = x .before .loop in
     let a = entry (x .before) .args in
-    let octet = getD (now (a .states)) (l .s - a .q .lo + a .q .length) 0 in
-    let on = or-eq-false (eqb (l .s) (a .q .hi)) (not (eqb octet (a .state))) (c .if1 .left) in
-    let before = eqb-false (l .s) (a .q .hi) (on .0) in
-    let behind = eqb-true octet (a .state) (not-false (eqb octet (a .state)) (on .1)) in (
+    let before = c .before .before .before .if1 .left in (
       (omega arith, omega arith, omega arith, omega (arith, before), length-set (l .list) (l .k) (l .s) ∙ l .inv .0 .4),
-      behind-next (now (a .states)) (a .q) (a .state) (l .s) (l .inv .1) behind,
+      behind-next (now (a .states)) (a .q) (a .state) (l .s) (l .inv .1) (c .if2 .left),
       listed x,
     )
 
-same-length-2 : tie.Need-same-length-2 Inv-loop μ-loop
-same-length-2 c = search needs
+same-length-3 : tie.Need-same-length-3 Inv-loop μ-loop
+same-length-3 c = search needs
 
-returns-2 : tie.Need-returns-2 Inv-loop μ-loop
-returns-2 c =
+returns-3 : tie.Need-returns-3 Inv-loop μ-loop
+returns-3 c =
     let l = c .before .loop in
     ((omega arith, omega arith, omega arith), (λ t a b. l .inv .1 t a (omega arith), l .inv .2))
 
@@ -125,14 +131,16 @@ list-while-spec =
     mul-list
     slice-write-list
     add-k
-    sub-if1
-    cast-if1
-    add-if1
-    shared-slice-read-if1
     same-length
     returns
+    sub-if2
+    cast-if2
+    add-if2
+    shared-slice-read-if2
+    same-length-2
+    returns-2
     add-s
     loop-less
     loop-again
-    same-length-2
-    returns-2)
+    same-length-3
+    returns-3)

@@ -14,8 +14,7 @@ use Rattle.slots.specs.Slots.{slotState}
 use Rattle.slots.specs.Window.{windowStates, raised}
 use Rattle.slots.proofs.Window.{window-room}
 use Rattle.search.specs.declared.Query.{Query}
-use Rattle.search.specs.Search.{listed}
-use Rattle.search.specs.Steps.{statesIn}
+use Rattle.search.specs.Search.{listed, statesIn}
 use Rattle.search.proofs.ByOctets.{take-replicate, listed-window}
 use Rattle.search.proofs.look.Statement.{statement}
 use Rattle.search.proofs.look.Tie as tie
@@ -66,8 +65,8 @@ scan-requires c κs =
     let x = c .before .before .before .before .before in
     let s = entry x in
     let w = now (s .args .window) in
-    let long : length (x .raise .last .1 .1 .1 .0 ++ drop (room s) w) ≡ length w =
-    rw (length-append, length-drop) (omega (arith, x .raise .kept .1 .1 .1 .0, part s, room-≤ s)) in
+    let long : length (x .raise .last .1 .1 .1 .1 .0 ++ drop (room s) w) ≡ length w =
+    rw (length-append, length-drop) (omega (arith, x .raise .kept .1 .1 .1 .1 .0, part s, room-≤ s)) in
     ((s .pre .0 .0, s .pre .0 .0 .few, omega (arith, long, s .pre .0 .1)), (s .pre .1 .0, refl))
 
 same-length : tie.Need-same-length
@@ -88,7 +87,7 @@ returns c =
     let rs = records (channel (record { m1 = a .m1; now = a .time; count = a .count }) (now (a .memory))) in
     let rest = drop n (now (a .window)) in
     let wiped : take n (now (a .window)) ≡ replicate n 0 = ap (take n) (s .pre .1 .1) ∙ take-replicate n (length (now (a .window)) - 0) (omega (arith, room-≤ s)) in
-    let e : x .raise .last .1 .1 .1 .0 ≡ holdsOnly n (windowStates (a .m1) rs (a .lo) (n - 32)) =
+    let e : x .raise .last .1 .1 .1 .1 .0 ≡ holdsOnly n (windowStates (a .m1) rs (a .lo) (n - 32)) =
     x .raise .ensures ∙ rw (part s) (ap (λ (ys : List ℕ). zeroFrom (n - 32) (raised (a .m1) rs (a .lo) ys)) wiped) ∙ window-room (a .m1) rs (a .lo) n in
     let l = ap (λ (xs : List ℕ). listed (statesIn (xs ++ rest) (a .lo)) asked) e ∙ listed-window (slotState (a .m1) rs) asked (n - 32) n rest (omega arith) in
     (y .scan .ensures .0 ∙ ap length l, y .scan .ensures .1 ∙ ap (holdsOnly (length (now (a .list)))) l)

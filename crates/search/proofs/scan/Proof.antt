@@ -6,7 +6,7 @@ use mathlib.Core.List.{List}
 use denote.Ref.{now}
 use lib.ListN.{length}
 use borrow.Author.Needs.{needs}
-use Rattle.search.specs.Steps.{statesIn}
+use Rattle.search.specs.Search.{statesIn}
 use Rattle.search.proofs.Decided.{bound-≤, bound-open, passes, all-free, not-all-free, bound-above, none-taken}
 use Rattle.search.proofs.Filled.{filled-≤, filled-itself}
 use Rattle.search.proofs.Scanned.{Scanned, scanned-none, scanned-skip, scanned-free, scanned-untaken, scanned-early, scanned-all}

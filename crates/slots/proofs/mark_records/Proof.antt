@@ -1,23 +1,25 @@
 -- `slots::mark_records` meets its contract: by the records so far and those to come each octet is what it is to be. Assumes nothing.
 use Prim.Native.Nat.{ℕ, _-_}
 use native.Mathlib.Omega.{arith}
+use mathlib.Core.Bool.{not}
 use mathlib.Core.List.{List}
 use denote.Ref.{now}
+use lib.ListN.{drop}
 use borrow.Author.Needs.{needs}
 use borrow.Author.Tests.{eqb-true}
 use Rattle.sound.specs.Sound.{records}
 use Rattle.table.specs.Memory.{channel}
-use Rattle.slots.specs.Steps.{recordsFrom, Raised}
+use Rattle.slots.specs.Steps.{recordsFrom, leftOut, chosen, Raised}
 use Rattle.slots.proofs.SoFar.{SoFar, so-far-none, so-far-next, so-far-seen, so-far-all, so-far-taken, reserved-too}
 use Rattle.slots.proofs.mark_records.Statement.{statement}
 use Rattle.slots.proofs.mark_records.Tie as tie
 
 abbrev Inv-loop : tie.InvT-loop
-Inv-loop out₀ n s memory first lo end held taken₀ reserved₀ i₀ out taken reserved i =
-    SoFar n (s .m1) first held memory out₀ out i taken reserved
+Inv-loop out₀ n s memory first from station own lo end held taken₀ reserved₀ i₀ out taken reserved i =
+    SoFar n (s .m1) first from held (λ r. not (leftOut station own r)) memory out₀ out i taken reserved
 
 abbrev μ-loop : tie.MeasureT-loop
-μ-loop out₀ n s memory first lo end held taken₀ reserved₀ i₀ out taken reserved i = held - i
+μ-loop out₀ n s memory first from station own lo end held taken₀ reserved₀ i₀ out taken reserved i = held - i
 
 -- ---- the places of what is known
 
@@ -33,11 +35,11 @@ at-lesser x = x .before .before
 abbrev at-loop : tie.After-mark-some Inv-loop μ-loop → tie.At-loop Inv-loop μ-loop
 at-loop x = at-lesser x .before .before
 
--- the first records of the memory are those that the table holds
+-- the first records of the memory are those that the table holds, and those from a place on are so of both
 held-all : (h : tie.At-loop Inv-loop μ-loop) {ys : List ℕ}
     → let a = entry h .args in
-    Raised (a .n) (a .s .m1) (recordsFrom 0 (at-held h .held-count .result) (now (a .memory))) (a .first) (now (a .out)) ys
-    → Raised (a .n) (a .s .m1) (records (channel (a .s) (now (a .memory)))) (a .first) (now (a .out)) ys
+    Raised (a .n) (a .s .m1) (chosen (a .station) (a .own) (recordsFrom (a .from) (at-held h .held-count .result) (now (a .memory)))) (a .first) (now (a .out)) ys
+    → Raised (a .n) (a .s .m1) (chosen (a .station) (a .own) (drop (a .from) (records (channel (a .s) (now (a .memory)))))) (a .first) (now (a .out)) ys
 unfolding records
 held-all h r = rw (at-held h .held-count .ensures .2) at r
 
@@ -45,7 +47,7 @@ held-all h r = rw (at-held h .held-count .ensures .2) at r
 marked : (x : tie.After-mark-some Inv-loop μ-loop)
     → let h = at-loop x in
     let a = entry h .args in
-    SoFar (a .n) (a .s .m1) (a .first) (at-held h .held-count .result) (now (a .memory)) (now (a .out)) (x .mark-some .last .0) (at-lesser x .lesser .result) (h .loop .taken) (h .loop .reserved)
+    SoFar (a .n) (a .s .m1) (a .first) (a .from) (at-held h .held-count .result) (λ r. not (leftOut (a .station) (a .own) r)) (now (a .memory)) (now (a .out)) (x .mark-some .last .0) (at-lesser x .lesser .result) (h .loop .taken) (h .loop .reserved)
 marked x =
     let l = at-lesser x in
     let h = at-loop x in

@@ -2,25 +2,32 @@
 
 use std::fmt::Debug;
 use std::hint::black_box;
+use std::ops::Range;
 use std::time::{Duration, Instant};
 
 use super::archive::{self, number};
-use super::c;
 use super::figures::{three_digits, time, Figures, Side, ROUNDS};
+use super::sides::{Calls, Lent, ARCHIVE, PEER};
 use super::tables::{any_bo, Kind, Setting, Table};
 use crate::draw::Draw;
 use crate::gemthatch::REFUSED;
 use crate::logs;
+use crate::paper::distance::Distance;
 use crate::paper::log::Entry;
-use crate::plain::{self, Answer, Distance, Range, State, Wish, RECORD};
+use crate::paper::search::Wish;
+use crate::paper::table::{Measure, Reservation};
+use crate::plain::{self, Answer, State, RECORD};
 
 const CAPACITIES: [usize; 3] = [2048, 64, 1];
 const FULL: usize = CAPACITIES[0];
 const M1S: [u32; 2] = [4500, 15360];
 
-/// Calls to a batch where they are short: a batch is timed as a whole, and its
-/// memory stays within the nearest cache.
+/// Calls to a batch where they are short: a batch is timed as a whole.
 const BATCH: usize = 256;
+
+/// What is lent to the calls of a batch stays within the nearest cache: a full
+/// table with the longest map does, so no more than that.
+const NEAREST: usize = FULL * RECORD + M1S[1] as usize;
 
 /// A call that takes longer is a batch by itself.
 const LONG: Duration = Duration::from_micros(100);
@@ -35,42 +42,49 @@ const RUBBISH: u8 = 0xA5;
 /// One call with all that it is given.
 struct Input<A> {
     memory: Vec<u8>,
+    map: Vec<u8>,
     state: State,
     list: usize,
     asked: A,
 }
 
 impl<A> Input<A> {
-    fn new(table: &Table, asked: A) -> Self {
+    /// For a call that takes no map.
+    fn bare(table: &Table, asked: A) -> Self {
         Input {
             memory: table.memory(),
+            map: Vec::new(),
             state: table.state(),
             list: 0,
             asked,
         }
     }
-}
 
-/// What a call may change.
-#[derive(PartialEq)]
-struct Lent {
-    memory: Vec<u8>,
-    list: Vec<u8>,
-}
-
-impl Lent {
-    fn to<A>(input: &Input<A>) -> Self {
-        Lent {
-            memory: input.memory.clone(),
-            list: vec![RUBBISH; input.list],
+    fn new(table: &Table, asked: A) -> Self {
+        Input {
+            map: table.map(),
+            ..Input::bare(table, asked)
         }
     }
 
-    fn restore<A>(&mut self, input: &Input<A>) {
-        self.memory.copy_from_slice(&input.memory);
-        if !self.list.is_empty() {
-            self.list.fill(RUBBISH);
+    fn lent(&self) -> Lent {
+        Lent {
+            memory: self.memory.clone(),
+            map: self.map.clone(),
+            list: vec![RUBBISH; self.list],
         }
+    }
+
+    fn restore(&self, lent: &mut Lent) {
+        lent.memory.copy_from_slice(&self.memory);
+        lent.map.copy_from_slice(&self.map);
+        if !lent.list.is_empty() {
+            lent.list.fill(RUBBISH);
+        }
+    }
+
+    fn octets(&self) -> usize {
+        self.memory.len() + self.map.len()
     }
 }
 
@@ -78,10 +92,10 @@ impl Lent {
 trait Program<A, R>: Fn(&mut Lent, &Input<A>) -> R {}
 impl<A, R, F: Fn(&mut Lent, &Input<A>) -> R> Program<A, R> for F {}
 
-/// Nanoseconds for a batch of calls on memory restored before.
+/// Nanoseconds for a batch of calls on memory and maps restored before.
 fn time_batch<A, R>(inputs: &[Input<A>], lent: &mut [Lent], program: &impl Program<A, R>) -> f64 {
     for (lent, input) in lent.iter_mut().zip(inputs) {
-        lent.restore(input);
+        input.restore(lent);
     }
     time(|| {
         for (lent, input) in lent.iter_mut().zip(inputs) {
@@ -91,7 +105,8 @@ fn time_batch<A, R>(inputs: &[Input<A>], lent: &mut [Lent], program: &impl Progr
 }
 
 /// Both must give the same answer, one that is `meant`, and leave the same
-/// octets. Gives the number of inputs compared: it stops after a while.
+/// octets of memory, map and list. Gives the number of inputs compared: it stops
+/// after a while.
 fn compare<A, R: Copy + Debug + PartialEq>(
     inputs: &[Input<A>],
     archive: &impl Program<A, R>,
@@ -103,7 +118,7 @@ fn compare<A, R: Copy + Debug + PartialEq>(
         if start.elapsed() > LONGEST {
             return Ok(place);
         }
-        let (mut one, mut other) = (Lent::to(input), Lent::to(input));
+        let (mut one, mut other) = (input.lent(), input.lent());
         let (given, expected) = (archive(&mut one, input), peer(&mut other, input));
         if given != expected {
             return Err(format!(
@@ -132,9 +147,9 @@ fn measure<A, R: Copy + Debug + PartialEq>(
     let inputs = &inputs[..compared];
     let size = match start.elapsed() > LONG * compared as u32 {
         true => 1,
-        false => (FULL * RECORD / inputs[0].memory.len()).min(BATCH),
+        false => (NEAREST / inputs[0].octets()).min(BATCH),
     };
-    let mut lent: Vec<Lent> = inputs[..size].iter().map(Lent::to).collect();
+    let mut lent: Vec<Lent> = inputs[..size].iter().map(Input::lent).collect();
     Ok(Figures::by_turns(size, |side, number| {
         let start = number % (inputs.len() / size) * size;
         let batch = &inputs[start..start + size];
@@ -147,6 +162,20 @@ fn measure<A, R: Copy + Debug + PartialEq>(
 
 fn accepted(answer: u32) -> bool {
     answer < REFUSED
+}
+
+/// Times a call that takes a map, of the archive and of its peer.
+fn measure_both<A>(
+    inputs: &[Input<A>],
+    call: impl Fn(&Calls, &mut Lent, &Input<A>) -> u32,
+    meant: impl Fn(u32) -> bool,
+) -> Result<Figures, String> {
+    measure(
+        inputs,
+        |lent, input| call(&ARCHIVE, lent, input),
+        |lent, input| call(&PEER, lent, input),
+        meant,
+    )
 }
 
 fn any_distance(draw: &mut Draw) -> Distance {
@@ -165,7 +194,7 @@ const LIMIT: f64 = 150.0;
 /// a number of tables. With a quarter of them the processor learns the branches
 /// that go by the records by heart, and the time is none that a host would see.
 const TABLES: usize = 64;
-const MOST_TABLES: usize = 64 * BATCH;
+const MOST_TABLES: usize = 4096;
 
 /// Many inputs, each from a table of its own.
 fn inputs<A>(setting: Setting, asked: impl Fn(Table, &mut Draw) -> Input<A>) -> Vec<Input<A>> {
@@ -178,16 +207,15 @@ fn inputs<A>(setting: Setting, asked: impl Fn(Table, &mut Draw) -> Input<A>) -> 
 
 fn open(setting: Setting) -> Result<Figures, String> {
     let inputs = inputs(setting, |table, _| Input::new(&table, ()));
-    measure(
+    measure_both(
         &inputs,
-        |lent, input| archive::open(&mut lent.memory, input.state.m1),
-        |lent, input| number(plain::open(&mut lent.memory, input.state.m1)),
+        |calls, lent, input| calls.open(lent, input.state.m1),
         accepted,
     )
 }
 
-fn wish(table: &Table, draw: &mut Draw) -> Wish {
-    Wish {
+fn reservation(table: &Table, draw: &mut Draw) -> Reservation {
+    Reservation {
         station: draw.one_of(&table.stations),
         rate: 1 + draw.below(60),
         superframes: 1 + draw.below(3),
@@ -199,11 +227,13 @@ fn wish(table: &Table, draw: &mut Draw) -> Wish {
     }
 }
 
-fn time_reserve(inputs: &[Input<Wish>], meant: impl Fn(u32) -> bool) -> Result<Figures, String> {
-    measure(
+fn time_reserve(
+    inputs: &[Input<Reservation>],
+    meant: impl Fn(u32) -> bool,
+) -> Result<Figures, String> {
+    measure_both(
         inputs,
-        |lent, input| archive::reserve(&mut lent.memory, input.state, &input.asked),
-        |lent, input| number(plain::reserve(&mut lent.memory, input.state, &input.asked)),
+        |calls, lent, input| calls.reserve(lent, input.state, &input.asked),
         meant,
     )
 }
@@ -212,14 +242,14 @@ fn time_reserve(inputs: &[Input<Wish>], meant: impl Fn(u32) -> bool) -> Result<F
 fn reserve_new(setting: Setting) -> Result<Figures, String> {
     let inputs = inputs(setting, |mut table, draw| {
         table.records.pop();
-        // A wish that is held already would be refused.
+        // One that is held already would be refused.
         loop {
-            let wish = wish(&table, draw);
+            let asked = reservation(&table, draw);
             let held = table.records.iter().any(|record| {
-                record.station == wish.station && record.first == table.now + wish.bs
+                record.station == asked.station && record.first == table.now + asked.bs
             });
             if !held {
-                return Input::new(&table, wish);
+                return Input::new(&table, asked);
             }
         }
     });
@@ -229,40 +259,31 @@ fn reserve_new(setting: Setting) -> Result<Figures, String> {
 /// The last record once more: refused 16.
 fn reserve_held(setting: Setting) -> Result<Figures, String> {
     let inputs = inputs(setting, |mut table, draw| {
-        let wish = wish(&table, draw);
+        let asked = reservation(&table, draw);
         let last = table.records.last_mut().unwrap();
-        last.station = wish.station;
-        last.first = table.now + wish.bs;
-        last.rate = wish.rate;
-        last.superframes = wish.superframes;
-        last.length = wish.length;
-        last.bo = wish.bo;
-        Input::new(&table, wish)
+        last.station = asked.station;
+        last.first = table.now + asked.bs;
+        last.rate = asked.rate;
+        last.superframes = asked.superframes;
+        last.length = asked.length;
+        last.bo = asked.bo;
+        Input::new(&table, asked)
     });
     time_reserve(&inputs, |answer| answer == REFUSED + 16)
 }
 
 fn distance(setting: Setting) -> Result<Figures, String> {
     let inputs = inputs(setting, |table, draw| {
-        let station = draw.one_of(&table.stations);
-        Input::new(&table, (station, any_distance(draw), LIMIT))
+        let told = Measure {
+            station: draw.one_of(&table.stations),
+            distance: any_distance(draw),
+            limit: LIMIT,
+        };
+        Input::new(&table, told)
     });
-    measure(
+    measure_both(
         &inputs,
-        |lent, input| {
-            let (station, distance, limit) = input.asked;
-            archive::distance(&mut lent.memory, input.state, station, distance, limit)
-        },
-        |lent, input| {
-            let (station, distance, limit) = input.asked;
-            number(plain::distance(
-                &mut lent.memory,
-                input.state,
-                station,
-                distance,
-                limit,
-            ))
-        },
+        |calls, lent, input| calls.distance(lent, input.state, &input.asked),
         accepted,
     )
 }
@@ -271,47 +292,56 @@ fn wipe(setting: Setting) -> Result<Figures, String> {
     let inputs = inputs(setting, |table, draw| {
         Input::new(&table, draw.one_of(&table.stations))
     });
-    measure(
+    measure_both(
         &inputs,
-        |lent, input| archive::wipe(&mut lent.memory, input.state, input.asked),
-        |lent, input| number(plain::wipe(&mut lent.memory, input.state, input.asked)),
+        |calls, lent, input| calls.wipe(lent, input.state, input.asked),
         accepted,
     )
 }
 
-fn time_clock(inputs: &[Input<u32>], meant: impl Fn(u32) -> bool) -> Result<Figures, String> {
-    measure(
-        inputs,
-        |lent, input| archive::clock(&mut lent.memory, input.state, input.asked),
-        |lent, input| number(plain::clock(&mut lent.memory, input.state, input.asked)),
+/// A clock to the slot that is picked for a table.
+fn clock(
+    setting: Setting,
+    slot: impl Fn(&Table, &mut Draw) -> u32,
+    meant: impl Fn(u32) -> bool,
+) -> Result<Figures, String> {
+    let inputs = inputs(setting, |table, draw| {
+        let slot = slot(&table, draw);
+        Input::new(&table, slot)
+    });
+    measure_both(
+        &inputs,
+        |calls, lent, input| calls.clock(lent, input.state, input.asked),
         meant,
     )
 }
 
 /// Of a single record, one in ten goes.
 fn clock_tenth(setting: Setting) -> Result<Figures, String> {
-    let inputs = inputs(setting, |table, draw| {
+    let tenth = |table: &Table, draw: &mut Draw| {
         let slots = table.last_slots();
         let gone = (slots.len() + draw.below(10) as usize) / 10;
-        let slot = slots
+        slots
             .get(gone)
             .copied()
-            .unwrap_or_else(|| slots[gone - 1] + 1);
-        Input::new(&table, slot)
-    });
-    time_clock(&inputs, accepted)
+            .unwrap_or_else(|| slots[gone - 1] + 1)
+    };
+    clock(setting, tenth, accepted)
 }
 
 fn clock_none(setting: Setting) -> Result<Figures, String> {
-    let inputs = inputs(setting, |table, _| {
-        Input::new(&table, table.last_slots()[0])
-    });
-    time_clock(&inputs, |answer| answer == 0)
+    let none = |table: &Table, _: &mut Draw| table.last_slots()[0];
+    clock(setting, none, |answer| answer == 0)
+}
+
+/// The call that hosts make most.
+fn clock_next(setting: Setting) -> Result<Figures, String> {
+    clock(setting, |table, _| table.now + 1, accepted)
 }
 
 fn slot_state(setting: Setting, peer: fn(&[u8], State, u32) -> Answer) -> Result<Figures, String> {
     let inputs = inputs(setting, |table, draw| {
-        Input::new(&table, table.now + draw.below(setting.m1))
+        Input::bare(&table, table.now + draw.below(setting.m1))
     });
     measure(
         &inputs,
@@ -329,53 +359,71 @@ fn slot_state_dividing(setting: Setting) -> Result<Figures, String> {
     slot_state(setting, plain::slot_state_dividing)
 }
 
-/// A search's peer, with its answer in the archive's form.
-type SearchPeer = fn(&[u8], State, &Range, &mut [u8]) -> u32;
-
-fn search_plain(memory: &[u8], state: State, range: &Range, list: &mut [u8]) -> u32 {
-    number(plain::search(memory, state, range, list))
-}
-
-fn search(
-    setting: Setting,
-    peer: SearchPeer,
-    range: impl Fn(&Table, &mut Draw) -> Range,
-) -> Result<Figures, String> {
+fn search(setting: Setting, wish: impl Fn(&Table, &mut Draw) -> Wish) -> Result<Figures, String> {
     let inputs = inputs(setting, |table, draw| {
-        let range = range(&table, draw);
+        let wish = wish(&table, draw);
         Input {
-            list: range.wanted as usize * 4,
-            ..Input::new(&table, range)
+            list: wish.wanted as usize * 4,
+            ..Input::new(&table, wish)
         }
     });
-    measure(
+    measure_both(
         &inputs,
-        |lent, input| archive::search(&lent.memory, input.state, &input.asked, &mut lent.list),
-        |lent, input| peer(&lent.memory, input.state, &input.asked, &mut lent.list),
+        |calls, lent, input| calls.search(lent, input.state, &input.asked),
         |answer| accepted(answer) || answer == REFUSED + 21,
     )
 }
 
-/// Anywhere in the next superframe.
-fn search_some(setting: Setting, peer: SearchPeer, starts: u32) -> Result<Figures, String> {
-    search(setting, peer, |table, draw| {
-        let lo = table.now + draw.below(setting.m1 - starts);
-        Range {
+/// Slots of the blocks that a search of some starts asks for.
+const LENGTH: u32 = 3;
+
+/// So many starts, from one of the slots that lie so far from now.
+fn search_from(setting: Setting, from: Range<u32>, starts: u32) -> Result<Figures, String> {
+    search(setting, |table, draw| {
+        let lo = table.now + from.start + draw.below(from.end - from.start);
+        Wish {
             lo,
             hi: lo + starts - 1,
-            length: 3,
+            length: LENGTH,
             wanted: starts.min(3),
         }
     })
 }
 
-fn search_whole(setting: Setting, peer: SearchPeer) -> Result<Figures, String> {
-    search(setting, peer, |table, _| Range {
+/// Anywhere in the map, blocks and all.
+fn search_inside(setting: Setting, starts: u32) -> Result<Figures, String> {
+    search_from(setting, 0..setting.m1 - (starts + LENGTH - 2), starts)
+}
+
+/// Starts on both sides of the map's end.
+fn search_across(setting: Setting, starts: u32) -> Result<Figures, String> {
+    search_from(setting, setting.m1 + 1 - starts..setting.m1, starts)
+}
+
+/// Wholly behind the map, in the superframe after it.
+fn search_ahead(setting: Setting, starts: u32) -> Result<Figures, String> {
+    search_from(setting, setting.m1..2 * setting.m1, starts)
+}
+
+/// As many of the longest blocks as a list can hold, of so many starts from now
+/// on.
+fn search_longest(setting: Setting, starts: u32) -> Result<Figures, String> {
+    search(setting, |table, _| Wish {
         lo: table.now,
-        hi: table.now + setting.m1 - 1,
+        hi: table.now + starts - 1,
         length: 32,
         wanted: 16,
     })
+}
+
+/// All blocks that lie in the map.
+fn search_map(setting: Setting) -> Result<Figures, String> {
+    search_longest(setting, setting.m1 - 31)
+}
+
+/// As many starts as there can be; the last blocks reach past the map.
+fn search_whole(setting: Setting) -> Result<Figures, String> {
+    search_longest(setting, setting.m1)
 }
 
 /// A log record of any operation where one place is free.
@@ -394,13 +442,9 @@ fn replay_step(setting: Setting) -> Result<Figures, String> {
         };
         Input::new(&table, entry.octets())
     });
-    measure(
+    measure_both(
         &inputs,
-        |lent, input| archive::replay_step(&mut lent.memory, input.state, &input.asked),
-        |lent, input| {
-            let Lent { memory, .. } = lent;
-            number(plain::step(memory, input.state, &input.asked, false))
-        },
+        |calls, lent, input| calls.replay_step(lent, input.state, &input.asked),
         |answer| accepted(answer) || answer == REFUSED + 16,
     )
 }
@@ -408,7 +452,7 @@ fn replay_step(setting: Setting) -> Result<Figures, String> {
 /// Any place, and the first one past the end.
 fn record_at(setting: Setting) -> Result<Figures, String> {
     let inputs = inputs(setting, |table, draw| {
-        Input::new(&table, draw.below(table.state().count + 1))
+        Input::bare(&table, draw.below(table.state().count + 1))
     });
     measure(
         &inputs,
@@ -428,16 +472,16 @@ const CALLS: [(&str, Bench); 19] = [
     ("wipe", wipe),
     ("clock, a tenth goes", clock_tenth),
     ("clock, none goes", clock_none),
+    ("clock, next slot", clock_next),
     ("slot state / in turn", slot_state_in_turn),
     ("slot state / dividing", slot_state_dividing),
-    ("search 1 / plain", |s| search_some(s, search_plain, 1)),
-    ("search 1 / C", |s| search_some(s, c::search, 1)),
-    ("search 10 / plain", |s| search_some(s, search_plain, 10)),
-    ("search 10 / C", |s| search_some(s, c::search, 10)),
-    ("search 100 / plain", |s| search_some(s, search_plain, 100)),
-    ("search 100 / C", |s| search_some(s, c::search, 100)),
-    ("search whole / plain", |s| search_whole(s, search_plain)),
-    ("search whole / C", |s| search_whole(s, c::search)),
+    ("search 1", |s| search_inside(s, 1)),
+    ("search 10", |s| search_inside(s, 10)),
+    ("search 100", |s| search_inside(s, 100)),
+    ("search map", search_map),
+    ("search whole", search_whole),
+    ("search across", |s| search_across(s, 100)),
+    ("search ahead", |s| search_ahead(s, 100)),
     ("record at", record_at),
     ("replay step", replay_step),
 ];
@@ -476,7 +520,27 @@ fn rows(
     Ok(worst)
 }
 
-pub fn table() -> Result<(), String> {
+/// The maps that go with the inputs have to be those of the paper.
+fn check_maps() -> Result<(), String> {
+    for kind in Kind::ALL {
+        for m1 in M1S {
+            let setting = Setting {
+                kind,
+                capacity: FULL,
+                m1,
+            };
+            let table = Table::full(setting, &mut Draw::from_seed(12));
+            if table.map() != table.map_on_paper() {
+                return Err(format!("{}, M1 {m1}: not the paper's map", kind.name()));
+            }
+        }
+    }
+    Ok(())
+}
+
+/// The calls whose name has a word in it.
+pub fn table(word: &str) -> Result<(), String> {
+    check_maps()?;
     println!("Calls on a table, at two lengths of the superframe:\n");
     println!(
         "| {:<21} | records | {:<9} | {:>8} | {:>8} | {:>5} | {:>8} | {:>8} | {:>5} |",
@@ -484,7 +548,7 @@ pub fn table() -> Result<(), String> {
     );
     println!("|---|---:|---|---:|---:|---:|---:|---:|---:|");
     let (mut worst, mut notes) = (Vec::new(), Vec::new());
-    for (name, bench) in CALLS {
+    for (name, bench) in CALLS.into_iter().filter(|(name, _)| name.contains(word)) {
         worst.push((name, rows(name, bench, &mut notes)?));
     }
     if !notes.is_empty() {

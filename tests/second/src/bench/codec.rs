@@ -181,14 +181,15 @@ const CALLS: [(&str, Bench); 6] = [
     ("count", count),
 ];
 
-pub fn table() -> Result<(), String> {
+/// The calls whose name has a word in it.
+pub fn table(word: &str) -> Result<(), String> {
     println!("Calls without a table, most of them accepted:\n");
     println!(
         "| {:<21} | {:>8} | {:>8} | {:>5} |",
         "call", "archive", "plain", "ratio"
     );
     println!("|---|---:|---:|---:|");
-    for (name, bench) in CALLS {
+    for (name, bench) in CALLS.into_iter().filter(|(name, _)| name.contains(word)) {
         let figures = bench().map_err(|error| format!("{name}: {error}"))?;
         println!("| {name:<21} | {figures} |");
     }

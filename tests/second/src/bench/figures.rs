@@ -88,7 +88,7 @@ pub fn three_digits(number: f64) -> String {
 }
 
 /// A time with its unit.
-fn shown(nanoseconds: f64) -> String {
+pub fn shown(nanoseconds: f64) -> String {
     let (number, unit) = match nanoseconds {
         n if n < 999.5 => (n, "ns"),
         n if n < 999.5e3 => (n / 1e3, "µs"),

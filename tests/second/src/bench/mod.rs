@@ -1,13 +1,14 @@
 //! Times, not checks: what was built beside peers written by hand.
 
 mod archive;
-mod c;
 mod calls;
 mod codec;
 mod figures;
 mod listing;
+mod load;
 mod programs;
 mod replay;
+mod sides;
 mod tables;
 
 use std::path::Path;
@@ -38,7 +39,12 @@ pub fn replay(replay: &Path, peer: &Path) -> ExitCode {
     close(replay::table(replay, peer))
 }
 
-/// Each call of the archive beside its peer.
-pub fn calls() -> ExitCode {
-    close(codec::table().and_then(|()| calls::table()))
+/// How many channels one core serves, with the archive and with its peer.
+pub fn load() -> ExitCode {
+    close(load::table())
+}
+
+/// Each call of the archive whose name has a word in it, beside its peer.
+pub fn calls(word: &str) -> ExitCode {
+    close(codec::table(word).and_then(|()| calls::table(word)))
 }

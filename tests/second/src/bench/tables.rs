@@ -1,7 +1,8 @@
 //! Sound tables of several kinds for the calls.
 
 use crate::draw::Draw;
-use crate::plain::{Record, State, RECORD};
+use crate::paper::{map, table};
+use crate::plain::{self, Record, State, RECORD};
 
 #[derive(Clone, Copy, PartialEq)]
 pub enum Kind {
@@ -53,9 +54,6 @@ pub struct Setting {
 /// Slots in a block at most.
 const LONGEST_BLOCK: u32 = 32;
 
-/// Stations in a table, each with its share of the records.
-const STATIONS: usize = 16;
-
 /// Of half of the records 0, else any other.
 pub fn any_bo(draw: &mut Draw) -> i32 {
     match draw.below(2) {
@@ -67,11 +65,14 @@ pub fn any_bo(draw: &mut Draw) -> i32 {
 pub struct Table {
     pub setting: Setting,
     pub now: u32,
-    pub stations: [u32; STATIONS],
+    pub stations: [u32; Table::STATIONS],
     pub records: Vec<Record>,
 }
 
 impl Table {
+    /// Stations in a table, each with its share of the records.
+    pub const STATIONS: usize = 16;
+
     /// A full table.
     pub fn full(setting: Setting, draw: &mut Draw) -> Self {
         let mut table = Table {
@@ -139,6 +140,17 @@ impl Table {
             record.write(octets);
         }
         memory
+    }
+
+    pub fn map(&self) -> Vec<u8> {
+        plain::map(&self.memory(), self.state())
+    }
+
+    /// The same as the paper has it.
+    pub fn map_on_paper(&self) -> Vec<u8> {
+        let State { m1, now, count } = self.state();
+        let held = table::Table::held(&self.memory(), table::State { m1, now, count });
+        map::fresh(&held.expect("the tables made here are sound"))
     }
 
     /// The last slots of all records, ascending.

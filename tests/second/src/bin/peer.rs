@@ -5,6 +5,8 @@
 //! `peer replay-trusting`, which doesn't. All meet the same checks as what they
 //! stand beside and use the same words.
 
+#[path = "../plain/changes.rs"]
+mod changes;
 #[path = "../plain/log.rs"]
 mod log;
 #[path = "../plain/table.rs"]
@@ -255,7 +257,7 @@ impl Replay {
     fn open(trusting: bool) -> Replay {
         let mut memory = vec![0; 2048 * table::RECORD];
         let m1 = 4500;
-        table::open(&mut memory, m1).expect("both figures are right");
+        changes::open(&mut memory, m1).expect("both figures are right");
         Replay {
             memory,
             state: State {

@@ -155,6 +155,10 @@ pub fn odd(draw: &mut Draw, round: u32) -> Channel {
             state.count = near::number(draw, *state);
         }
     }
+    // A map that went with the table before, or goes with this one.
+    if once_in(draw, 2) {
+        channel.remap();
+    }
     channel
 }
 

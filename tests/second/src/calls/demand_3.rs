@@ -1,6 +1,7 @@
-//! Demand 3: after a final wipe of station A the table is that of the same
-//! sequence without A's calls, and the others got the same answers.
+//! Demand 3: after a final wipe of station A the table and its map are those of
+//! the same sequence without A's calls, and the others got the same answers.
 
+use super::maps::never_wrong;
 use super::near::{self, once_in};
 use super::pair::{Channel, Pair};
 use crate::archive::Lent;
@@ -57,6 +58,7 @@ struct End {
 impl End {
     fn same_as(&self, other: &End) -> bool {
         self.channel.memory.octets() == other.channel.memory.octets()
+            && self.channel.map.octets() == other.channel.map.octets()
             && self.channel.state == other.channel.state
             && self.answers == other.answers
     }
@@ -70,7 +72,8 @@ fn play(
     steps: impl Iterator<Item = Step>,
     a: u32,
 ) -> Result<End, String> {
-    let mut channel = Channel::holding(&vec![0xEE; capacity * RECORD], State::default());
+    let mut channel = Channel::unopened(&vec![0xEE; capacity * RECORD], m1);
+    let before = pair.counts.clone();
     if pair.open(&mut channel, m1)? != Ok(0) {
         return Err("open refused".to_string());
     }
@@ -99,6 +102,7 @@ fn play(
         }
         end.held += u32::from(of_a && answer == Ok(0) && step.is_reserve());
     }
+    never_wrong(pair, &before)?;
     Ok(end)
 }
 

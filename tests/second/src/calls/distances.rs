@@ -25,7 +25,7 @@ fn table(far: u8) -> Channel {
     let mut octets = [record(7, far).octets(), record(8, 1).octets()].concat();
     octets.resize(3 * RECORD, 0);
     let state = State {
-        m1: 4500,
+        m1: 60,
         now: 50,
         count: 2,
     };

@@ -432,7 +432,7 @@ fn search(pair: &mut Pair, tried: &mut usize) -> Result<(), String> {
 }
 
 fn open(pair: &mut Pair, tried: &mut usize) -> Result<(), String> {
-    let mut ask = |octets, m1| pair.open(&mut Channel::holding(&vec![0xEE; octets], STATE), m1);
+    let mut ask = |octets, m1| pair.open(&mut Channel::unopened(&vec![0xEE; octets], m1), m1);
     each(tried, "open, octets", MEMORY, |octets| {
         ask(octets as usize, 4500)
     })?;

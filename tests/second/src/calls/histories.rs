@@ -3,10 +3,11 @@
 
 use std::collections::BTreeSet;
 
+use super::maps::never_wrong;
 use super::near::{self, once_in};
 use super::pair::{Call, Channel, Pair};
 use crate::draw::Draw;
-use crate::paper::table::{Reservation, State, Table, RECORD};
+use crate::paper::table::{Reservation, Table, RECORD};
 use crate::paper::LATEST;
 use crate::report::Verdict;
 
@@ -179,7 +180,8 @@ struct Plot {
 
 fn play(pair: &mut Pair, draw: &mut Draw, plot: &Plot, seen: &mut Seen) -> Result<(), String> {
     let rubbish: Vec<u8> = (0..plot.capacity * RECORD).map(|_| draw.octet()).collect();
-    let mut channel = Channel::holding(&rubbish, State::default());
+    let mut channel = Channel::unopened(&rubbish, plot.m1);
+    let before = pair.counts.clone();
     if pair.open(&mut channel, plot.m1)? != Ok(0) {
         return Err(format!("open refused M1 {}", plot.m1));
     }
@@ -187,7 +189,6 @@ fn play(pair: &mut Pair, draw: &mut Draw, plot: &Plot, seen: &mut Seen) -> Resul
         let _ = pair.clock(&mut channel, LATEST - slots)?;
     }
     let mut last = near::reservation(draw);
-    let accepted = pair.counts.of(Call::Reserve, 0);
     // First some reserves, or more than enough, then calls of all kinds.
     let enough = plot.capacity + plot.capacity / 2;
     let mut fill = draw.one_of(&[1, plot.capacity / 2, enough]);
@@ -208,10 +209,11 @@ fn play(pair: &mut Pair, draw: &mut Draw, plot: &Plot, seen: &mut Seen) -> Resul
             step(pair, draw, &mut channel, seen)?;
         }
     }
-    if pair.counts.of(Call::Reserve, 0) > accepted {
+    if pair.counts.of(Call::Reserve, 0) > before.of(Call::Reserve, 0) {
         seen.m1s.insert(plot.m1);
     }
-    // What the calls left is sound, whatever they were.
+    // What the calls left is sound and has its map, whatever they were.
+    never_wrong(pair, &before)?;
     match Table::held(channel.memory.octets(), channel.state) {
         Ok(_) => Ok(()),
         Err(refusal) => Err(format!("a history left a table refused {refusal}")),
@@ -308,15 +310,18 @@ pub fn of_any_size(pair: &mut Pair) -> Verdict {
 pub fn large(pair: &mut Pair) -> Verdict {
     let mut draw = Draw::from_seed(303);
     let mut seen = Seen::default();
+    // Half of them in small superframes: every call works a map out.
     let plots = [
         (60, None, true),
         (120, Some(0), true),
+        (180, None, false),
+        (240, Some(240), true),
         (4_500, None, false),
         (4_500, Some(4_500), true),
         (15_360, None, true),
         (15_360, Some(100), true),
     ];
-    for (m1, before_end, sparse) in plots.into_iter().cycle().take(4 * plots.len()) {
+    for (m1, before_end, sparse) in plots {
         let plot = Plot {
             capacity: 2_048,
             m1,
@@ -328,5 +333,5 @@ pub fn large(pair: &mut Pair) -> Verdict {
         };
         play(pair, &mut draw, &plot, &mut seen)?;
     }
-    seen.enough(4, 50, 0)
+    seen.enough(6, 15, 0)
 }

@@ -16,7 +16,7 @@ use crate::report::Verdict;
 
 /// A channel opened, its clock set.
 fn opened(pair: &mut Pair, records: usize, m1: u32, now: u32) -> Result<Channel, String> {
-    let mut channel = Channel::holding(&vec![0xFF; records * RECORD], Default::default());
+    let mut channel = Channel::unopened(&vec![0xFF; records * RECORD], m1);
     expect("open", Ok(0), pair.open(&mut channel, m1)?)?;
     expect("clock", Ok(0), pair.clock(&mut channel, now)?)?;
     Ok(channel)

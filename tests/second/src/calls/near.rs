@@ -344,6 +344,11 @@ pub fn now(draw: &mut Draw) -> u32 {
 /// A sound table made directly.
 pub fn table(draw: &mut Draw, capacity: u32, count: u32) -> Channel {
     let (m1, now) = (m1(draw), now(draw));
+    table_of(draw, m1, now, capacity, count)
+}
+
+/// The same of an M1, at a slot.
+pub fn table_of(draw: &mut Draw, m1: u32, now: u32, capacity: u32, count: u32) -> Channel {
     let nears = draw.one_of(&[2, 4, 4, 10_000]);
     let mut octets = Vec::with_capacity(capacity as usize * RECORD);
     for place in 0..count {

@@ -80,7 +80,25 @@ fn table(draw: &mut Draw, mut records: Vec<Record>, room: usize, earned: &Earned
     let mut octets: Vec<u8> = records.iter().flat_map(Record::octets).collect();
     octets.resize((records.len() + room) * RECORD, 0);
     let count = records.len() as u32;
-    Channel::holding(&octets, State { count, ..STATE })
+    let mut channel = Channel::holding(&octets, State { count, ..STATE });
+    if earned.has(25) {
+        spoil_map(draw, &mut channel);
+    }
+    channel
+}
+
+/// One octet of it is another, or there is one too few or too many.
+fn spoil_map(draw: &mut Draw, channel: &mut Channel) {
+    let mut map = channel.map.octets().to_vec();
+    match draw.below(4) {
+        0 => map.push(0),
+        1 => drop(map.pop()),
+        _ => {
+            let place = draw.below(map.len() as u32) as usize;
+            map[place] ^= draw.one_of(&[1, 2, 3, 4, 128, 255]);
+        }
+    }
+    channel.map = Lent::holding(&map);
 }
 
 /// A limit, refused if 18 is to be earned.
@@ -317,7 +335,12 @@ fn open(pair: &mut Pair, draw: &mut Draw, earned: &Earned) -> Result<Answer, Str
     } else {
         &[16, 32_768]
     });
-    pair.open(&mut Channel::holding(&vec![0xEE; octets], STATE), m1)
+    let mut channel = Channel::unopened(&vec![0xEE; octets], m1);
+    if earned.has(25) {
+        let octets = (m1 + draw.one_of(&[1, 60, 15_360])) as usize;
+        channel.map = Lent::holding(&vec![0xEE; octets]);
+    }
+    pair.open(&mut channel, m1)
 }
 
 /// A log record with the limit that 18 asks for, and where 23 is to be earned

@@ -8,9 +8,10 @@ use crate::archive::{self, Lent, LentTally};
 use crate::gemthatch::Block;
 use crate::paper::codec::{self, Destination, Fields, GROUP};
 use crate::paper::log;
+use crate::paper::map::{self, After};
 use crate::paper::search::{self, Wish};
 use crate::paper::slots;
-use crate::paper::table::{self, After, Measure, Reservation, State, RECORD};
+use crate::paper::table::{Measure, Reservation, State, Table, RECORD};
 use crate::paper::walk::{self, Handed};
 use crate::paper::{over_c, Answer};
 use crate::report::hex;
@@ -45,27 +46,31 @@ impl Call {
         (Call::Write, "write", &[8, 9, 3, 4, 5, 6, 34]),
         (Call::Rate, "rate", &[7, 3]),
         (Call::Parameter, "parameter", &[22, 10]),
-        (Call::Open, "open", &[10, 1]),
-        (Call::Clock, "clock", &[11, 12, 13]),
+        (Call::Open, "open", &[10, 1, 25]),
+        (Call::Clock, "clock", &[11, 25, 12, 13]),
         (
             Call::Reserve,
             "reserve",
-            &[11, 8, 14, 15, 9, 5, 6, 24, 18, 16, 17],
+            &[11, 25, 8, 14, 15, 9, 5, 6, 24, 18, 16, 17],
         ),
-        (Call::Distance, "distance", &[11, 8, 18]),
-        (Call::Wipe, "wipe", &[11, 8]),
+        (Call::Distance, "distance", &[11, 25, 8, 18]),
+        (Call::Wipe, "wipe", &[11, 25, 8]),
         (Call::SlotState, "slot state", &[11, 12, 13]),
-        (Call::Search, "search", &[11, 19, 9, 20, 1, 21]),
+        (Call::Search, "search", &[11, 25, 19, 9, 20, 1, 21]),
         (Call::Pick, "pick", &[20]),
         (Call::RecordAt, "record at", &[11]),
-        (Call::StepClock, "step of a clock", &[23, 11, 12, 13]),
+        (Call::StepClock, "step of a clock", &[23, 11, 25, 12, 13]),
         (
             Call::StepReserve,
             "step of a reserve",
-            &[23, 11, 8, 14, 15, 9, 5, 6, 24, 18, 16, 17],
+            &[23, 11, 25, 8, 14, 15, 9, 5, 6, 24, 18, 16, 17],
         ),
-        (Call::StepDistance, "step of a distance", &[23, 11, 8, 18]),
-        (Call::StepWipe, "step of a wipe", &[23, 11, 8]),
+        (
+            Call::StepDistance,
+            "step of a distance",
+            &[23, 11, 25, 8, 18],
+        ),
+        (Call::StepWipe, "step of a wipe", &[23, 11, 25, 8]),
         (Call::StepOther, "step of no operation", &[23]),
     ];
 
@@ -94,21 +99,51 @@ impl Call {
     }
 }
 
-/// A channel as the host has it: lent memory and the state beside it.
+/// A channel as the host has it: lent memory and map, and the state beside
+/// them.
 #[derive(Clone)]
 pub struct Channel {
     pub memory: Lent,
+    pub map: Lent,
     pub state: State,
 }
 
 impl Channel {
+    /// With the map that goes with them, where there is one.
     pub fn holding(octets: &[u8], state: State) -> Channel {
+        let mut channel = Channel::lending(octets, &[], state);
+        channel.remap();
+        channel
+    }
+
+    pub fn lending(octets: &[u8], map: &[u8], state: State) -> Channel {
         Channel {
             memory: Lent::holding(octets),
+            map: Lent::holding(map),
             state,
         }
     }
+
+    /// As it is before an opening, full of what was there before, with a map
+    /// for an M1, if there can be one.
+    pub fn unopened(octets: &[u8], m1: u32) -> Channel {
+        let map = vec![0xEE; m1.min(2 * LONGEST_M1) as usize];
+        Channel::lending(octets, &map, State::default())
+    }
+
+    /// Works the map out afresh. A table that isn't sound has none; then it is
+    /// of the right size, if there can be one.
+    pub fn remap(&mut self) {
+        let map = match Table::held(self.memory.octets(), self.state) {
+            Ok(table) => map::fresh(&table),
+            Err(_) => vec![0; self.state.m1.min(LONGEST_M1) as usize],
+        };
+        self.map = Lent::holding(&map);
+    }
 }
+
+/// The longest superframe.
+const LONGEST_M1: u32 = 15_360;
 
 /// The answer of both, or what differs.
 pub type Compared = Result<Answer, String>;
@@ -136,16 +171,17 @@ impl Counts {
         self.0[call as usize][refusal as usize]
     }
 
+    /// Of a refusal by all calls.
+    pub fn of_all(&self, refusal: u32) -> u64 {
+        self.0.iter().map(|answers| answers[refusal as usize]).sum()
+    }
+
     pub fn calls(&self, call: Call) -> u64 {
         self.0[call as usize].iter().sum()
     }
 
     pub fn all(&self) -> u64 {
         self.0.iter().flatten().sum()
-    }
-
-    pub fn accepted(&self) -> u64 {
-        self.0.iter().map(|answers| answers[0]).sum()
     }
 
     /// What was counted since then.
@@ -179,14 +215,27 @@ fn shown(octets: &[u8]) -> String {
     }
 }
 
+/// A map in a message: its first runs.
+fn runs(map: &[u8]) -> String {
+    const MOST: usize = 60;
+    let runs = map.chunk_by(|one, other| one == other);
+    let first: Vec<String> = runs
+        .take(MOST)
+        .map(|run| format!("{}x{}", run[0], run.len()))
+        .collect();
+    format!("{} octets [{}]", map.len(), first.join(" "))
+}
+
 /// Tells the first place in which two rows of octets differ.
 pub fn same_octets(what: &str, expected: &[u8], given: &[u8]) -> Result<(), String> {
+    if expected == given {
+        return Ok(());
+    }
     match expected
         .iter()
         .zip(given)
         .position(|(want, got)| want != got)
     {
-        None if expected.len() == given.len() => Ok(()),
         None => Err(format!("{what} of another length")),
         Some(place) => Err(format!(
             "octet {place} of the {what}: expected {:02X}, given {:02X}",
@@ -295,22 +344,25 @@ impl Pair {
         &mut self,
         call: Call,
         channel: &mut Channel,
-        model: impl FnOnce(&[u8], State) -> After,
-        archive: impl FnOnce(&mut Lent, State) -> Result<u32, String>,
+        model: impl FnOnce(&[u8], &[u8], State) -> After,
+        archive: impl FnOnce(&mut Lent, &mut Lent, State) -> Result<u32, String>,
         next: impl FnOnce(State, u32) -> State,
         input: impl Fn() -> String,
     ) -> Compared {
         let before = channel.memory.octets().to_vec();
+        let map = channel.map.octets().to_vec();
         let state = channel.state;
-        let expected = model(&before, state);
-        let compared = archive(&mut channel.memory, state).and_then(|given| {
+        let expected = model(&before, &map, state);
+        let compared = archive(&mut channel.memory, &mut channel.map, state).and_then(|given| {
             channel.state = formed(channel.state, given, |number| next(state, number));
             same("number", over_c(expected.answer), given)?;
             same_octets("memory", &expected.memory, channel.memory.octets())?;
+            same_octets("map", &expected.map, channel.map.octets())?;
             same("state", expected.state, channel.state)
         });
         self.told(call, expected.answer, compared, || {
-            format!("{}, {state:?}, memory {}", input(), shown(&before))
+            let (memory, map) = (shown(&before), runs(&map));
+            format!("{}, {state:?}, memory {memory}, map {map}", input())
         })
     }
 
@@ -320,8 +372,8 @@ impl Pair {
         self.changing(
             Call::Open,
             channel,
-            |memory, _| table::open(memory, m1),
-            |memory, _| archive::open(memory, m1),
+            |memory, map, _| map::open(memory, map, m1),
+            |memory, map, _| archive::open(memory, map, m1),
             |state, _| State { m1, ..state },
             || format!("M1 {m1}"),
         )
@@ -331,8 +383,8 @@ impl Pair {
         self.changing(
             Call::Clock,
             channel,
-            |memory, state| table::clock(memory, state, slot),
-            |memory, state| archive::clock(memory, state, slot),
+            |memory, map, state| map::clock(memory, map, state, slot),
+            |memory, map, state| archive::clock(memory, map, state, slot),
             |state, dropped| State {
                 now: slot,
                 count: state.count.wrapping_sub(dropped),
@@ -346,8 +398,8 @@ impl Pair {
         self.changing(
             Call::Reserve,
             channel,
-            |memory, state| table::reserve(memory, state, asked),
-            |memory, state| archive::reserve(memory, state, asked),
+            |memory, map, state| map::reserve(memory, map, state, asked),
+            |memory, map, state| archive::reserve(memory, map, state, asked),
             |state, _| State {
                 count: state.count.wrapping_add(1),
                 ..state
@@ -360,8 +412,8 @@ impl Pair {
         self.changing(
             Call::Distance,
             channel,
-            |memory, state| table::distance(memory, state, told),
-            |memory, state| archive::distance(memory, state, told),
+            |memory, map, state| map::distance(memory, map, state, told),
+            |memory, map, state| archive::distance(memory, map, state, told),
             |state, _| state,
             || format!("{told:?}"),
         )
@@ -371,8 +423,8 @@ impl Pair {
         self.changing(
             Call::Wipe,
             channel,
-            |memory, state| table::wipe(memory, state, station),
-            |memory, state| archive::wipe(memory, state, station),
+            |memory, map, state| map::wipe(memory, map, state, station),
+            |memory, map, state| archive::wipe(memory, map, state, station),
             |state, removed| State {
                 count: state.count.wrapping_sub(removed),
                 ..state
@@ -388,8 +440,8 @@ impl Pair {
         self.changing(
             call,
             channel,
-            |memory, state| log::step(memory, state, entry),
-            |memory, state| archive::replay_step(memory, state, entry),
+            |memory, map, state| log::step(memory, map, state, entry),
+            |memory, map, state| archive::replay_step(memory, map, state, entry),
             |state, number| match call {
                 Call::StepClock => State {
                     now: slot_of(entry),
@@ -423,16 +475,17 @@ impl Pair {
 
     /// The list holds what it likes before; afterwards what both gave.
     pub fn search(&mut self, channel: &mut Channel, wish: &Wish, list: &mut Lent) -> Compared {
-        let state = channel.state;
+        let Channel { memory, map, state } = channel;
         let octets = list.octets().len();
-        let (expected, entries) = search::search(channel.memory.octets(), state, wish, octets);
-        let compared = archive::search(&mut channel.memory, state, wish, list).and_then(|given| {
+        let (expected, entries) =
+            search::search(memory.octets(), map.octets(), *state, wish, octets);
+        let compared = archive::search(memory, map, *state, wish, list).and_then(|given| {
             same("number", over_c(expected), given)?;
             same_octets("list", &entries, list.octets())
         });
         self.told(Call::Search, expected, compared, || {
-            let memory = shown(channel.memory.octets());
-            format!("{wish:?}, a list of {octets} octets, {state:?}, memory {memory}")
+            let (memory, map) = (shown(memory.octets()), runs(map.octets()));
+            format!("{wish:?}, a list of {octets} octets, {state:?}, memory {memory}, map {map}")
         })
     }
 

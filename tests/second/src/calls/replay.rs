@@ -4,6 +4,7 @@
 use super::damage::{self, WAYS};
 use super::edges::{table, STATE, T};
 use super::expect;
+use super::maps::never_wrong;
 use super::near::{self, once_in};
 use super::pair::{same_octets, Channel, Compared, Pair};
 use crate::draw::Draw;
@@ -211,7 +212,7 @@ const BY_HAND: [(&str, Answer, &str, &str); 30] = [
 ];
 
 pub fn by_hand(pair: &mut Pair) -> Verdict {
-    let mut channel = Channel::holding(&[0xEE; 2 * RECORD], State::default());
+    let mut channel = Channel::unopened(&[0xEE; 2 * RECORD], 4500);
     expect("open", Ok(0), pair.open(&mut channel, 4500)?)?;
     for (entry, answer, first, second) in BY_HAND {
         expect(entry, answer, pair.step(&mut channel, &octets(entry))?)?;
@@ -631,6 +632,7 @@ fn history(
     operations: &[u8],
     seen: &mut Seen,
 ) -> Result<(), String> {
+    let before = pair.counts.clone();
     let mut twins = [channel.clone(), channel];
     for _ in 0..steps {
         let [one, other] = &mut twins;
@@ -662,8 +664,9 @@ fn history(
         let [one, other] = &twins;
         expect("state", one.state, other.state)?;
         same_octets("memory", one.memory.octets(), other.memory.octets())?;
+        same_octets("map", one.map.octets(), other.map.octets())?;
     }
-    Ok(())
+    never_wrong(pair, &before)
 }
 
 /// Small tables from their opening on, larger ones as they are, and full ones.
@@ -672,8 +675,8 @@ pub fn twins(pair: &mut Pair) -> Verdict {
     let mut seen = Seen::default();
     for _ in 0..6_000 {
         let capacity = draw.one_of(&[1, 2, 3, 5, 8]);
-        let mut channel = Channel::holding(&vec![0xEE; capacity * RECORD], State::default());
         let m1 = near::m1(&mut draw);
+        let mut channel = Channel::unopened(&vec![0xEE; capacity * RECORD], m1);
         expect("open", Ok(0), pair.open(&mut channel, m1)?)?;
         history(pair, &mut draw, channel, 40, &FILLING, &mut seen)?;
     }

@@ -84,7 +84,7 @@ fn refusal(draw: &mut Draw) -> u32 {
 /// The archive's tally of the calls compared so far, against our own counts.
 fn all_calls(pair: &Pair) -> Result<Tally, String> {
     let tally = pair.tally.tally()?;
-    let accepted = pair.counts.accepted();
+    let accepted = pair.counts.of_all(0);
     let expected = [accepted, pair.counts.all() - accepted];
     let given = [tally.accepted, tally.refused].map(u64::from);
     expect("all calls", expected, given)?;

@@ -2,7 +2,8 @@
 //! and what replay and moment write of a log.
 
 use super::distance::{Distance, UNKNOWN};
-use super::table::{self, After, Measure, Record, Reservation, State, Table, MOST_RECORDS, RECORD};
+use super::map::{self, After};
+use super::table::{self, Measure, Record, Reservation, State, Table, MOST_RECORDS, RECORD};
 use super::{Answer, Refusal};
 
 /// Octets in a log record.
@@ -11,8 +12,11 @@ pub const ENTRY: usize = 24;
 /// In the place of a distance that is unknown: all ones.
 pub const UNKNOWN_MILES: u32 = u32::MAX;
 
-/// Slots in a superframe of the table that replay and moment open.
+/// Slots in a superframe of the table that replay and moment open ..
 const REPLAYED_M1: u32 = 4_500;
+
+/// .. and the octets of its memory.
+const REPLAYED_OCTETS: usize = MOST_RECORDS * RECORD;
 
 /// A log record, its fields as they stand and in their order.
 #[derive(Clone, Copy, Debug, Default, PartialEq, Eq)]
@@ -161,35 +165,31 @@ fn apply(table: &mut Table, asked: Operation) -> Answer {
 }
 
 /// A log record on a table: 23 before the refusals of its operation's call.
-pub fn step(memory: &[u8], state: State, entry: &[u8]) -> After {
+pub fn step(memory: &[u8], map: &[u8], state: State, entry: &[u8]) -> After {
     match read(entry) {
-        Ok(asked) => table::change(memory, state, |table| apply(table, asked)),
-        Err(refusal) => After {
-            answer: Err(refusal),
-            memory: memory.to_vec(),
-            state,
-        },
+        Ok(asked) => map::change(memory, map, state, |table| apply(table, asked)),
+        Err(refusal) => map::refused(refusal, memory, map, state),
     }
 }
 
-/// The memory and the state that replay and moment begin with.
+/// What replay and moment begin with, and the map that goes with it.
 pub fn begin() -> After {
-    table::open(&[0; MOST_RECORDS * RECORD], REPLAYED_M1)
+    let map = [0; REPLAYED_M1 as usize];
+    map::open(&[0; REPLAYED_OCTETS], &map, REPLAYED_M1)
 }
 
 /// A log as it is replayed. Its table is kept as records and not as octets: it
 /// is sound when opened, and the calls leave it so, which spares a test of
-/// every octet at each of a million steps.
+/// every octet at each of a million steps. Nor is a map kept: no line shows it.
 pub struct Day {
     pub table: Table,
 }
 
 impl Default for Day {
     fn default() -> Day {
-        let opened = begin();
-        let table = Table::held(&opened.memory, opened.state);
+        let table = table::open(REPLAYED_OCTETS, REPLAYED_M1);
         Day {
-            table: table.expect("an opened table is sound"),
+            table: table.expect("both figures are right"),
         }
     }
 }

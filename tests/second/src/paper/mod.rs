@@ -4,6 +4,7 @@
 pub mod codec;
 pub mod distance;
 pub mod log;
+pub mod map;
 pub mod search;
 pub mod slots;
 pub mod table;

@@ -1,5 +1,6 @@
 //! The search for starts, and the pick among those found.
 
+use super::map;
 use super::slots::{self, Slot};
 use super::table::{State, Table};
 use super::{Answer, Refusal, LATEST};
@@ -38,10 +39,17 @@ fn starts(table: &Table, wish: &Wish) -> Vec<u32> {
     of_level(0).chain(of_level(1)).collect()
 }
 
-/// The starts found, cut after wanted; refusals in the order 11, 19, 9, 20,
-/// 1, 21.
-fn found(memory: &[u8], state: State, wish: &Wish, entries: usize) -> Result<Vec<u32>, Refusal> {
-    let table = Table::held(memory, state)?;
+/// The starts found, cut after wanted; refusals in the order 11, 25, 19, 9, 20,
+/// 1, 21. Found by the table wherever the blocks lie: by the map they have to be
+/// the same.
+fn found(
+    memory: &[u8],
+    map: &[u8],
+    state: State,
+    wish: &Wish,
+    entries: usize,
+) -> Result<Vec<u32>, Refusal> {
+    let table = map::held(memory, map, state)?;
     let &Wish {
         lo,
         hi,
@@ -69,8 +77,14 @@ fn found(memory: &[u8], state: State, wish: &Wish, entries: usize) -> Result<Vec
 }
 
 /// How many were found, and every octet of the list: the starts, then zeros.
-pub fn search(memory: &[u8], state: State, wish: &Wish, list_octets: usize) -> (Answer, Vec<u8>) {
-    let found = found(memory, state, wish, list_octets / 4);
+pub fn search(
+    memory: &[u8],
+    map: &[u8],
+    state: State,
+    wish: &Wish,
+    list_octets: usize,
+) -> (Answer, Vec<u8>) {
+    let found = found(memory, map, state, wish, list_octets / 4);
     let mut list = Vec::with_capacity(list_octets);
     for start in found.iter().flatten() {
         list.extend((0..4).map(|place| (start >> (8 * place)) as u8));

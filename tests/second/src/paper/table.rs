@@ -266,65 +266,17 @@ impl Table {
     }
 }
 
-/// What a call leaves.
-#[derive(Debug)]
-pub struct After {
-    pub answer: Answer,
-    pub memory: Vec<u8>,
-    pub state: State,
-}
-
-/// Makes a change in a table. One that isn't sound, or a change that is
-/// refused, leaves memory and state as they were.
-pub fn change(memory: &[u8], state: State, change: impl FnOnce(&mut Table) -> Answer) -> After {
-    let changed = Table::held(memory, state).and_then(|mut table| {
-        let number = change(&mut table)?;
-        Ok((number, table))
-    });
-    match changed {
-        Ok((number, table)) => After {
-            answer: Ok(number),
-            memory: table.octets(),
-            state: table.state(),
-        },
-        Err(refusal) => After {
-            answer: Err(refusal),
-            memory: memory.to_vec(),
-            state,
-        },
+/// An empty table in a memory of so many octets. Refusals in the order 10, 1.
+pub fn open(octets: usize, m1: u32) -> Result<Table, Refusal> {
+    if codec::parameter(1, m1).is_err() {
+        return Err(10);
     }
-}
-
-/// Refusals in the order 10, 1.
-pub fn open(memory: &[u8], m1: u32) -> After {
-    let refused = if codec::parameter(1, m1).is_err() {
-        Some(10)
-    } else if capacity(memory.len()).is_none() {
-        Some(1)
-    } else {
-        None
-    };
-    match refused {
-        None => After {
-            answer: Ok(0),
-            memory: vec![0; memory.len()],
-            state: State {
-                m1,
-                now: 0,
-                count: 0,
-            },
-        },
-        Some(refusal) => After {
-            answer: Err(refusal),
-            memory: memory.to_vec(),
-            state: State::default(),
-        },
-    }
-}
-
-/// Refusals in the order 11, 12, 13.
-pub fn clock(memory: &[u8], state: State, slot: u32) -> After {
-    change(memory, state, |table| table.clock(slot))
+    Ok(Table {
+        records: Vec::new(),
+        m1,
+        now: 0,
+        capacity: capacity(octets).ok_or(1_u32)?,
+    })
 }
 
 /// What a reserve asks for.
@@ -340,25 +292,10 @@ pub struct Reservation {
     pub limit: f64,
 }
 
-/// Refusals in the order 11, 8, 14, 15, 9, 5, 6, 24, 18, 16, 17.
-pub fn reserve(memory: &[u8], state: State, asked: &Reservation) -> After {
-    change(memory, state, |table| table.reserve(asked))
-}
-
 /// What a distance call tells of a station.
 #[derive(Clone, Copy, Debug)]
 pub struct Measure {
     pub station: u32,
     pub distance: Distance,
     pub limit: f64,
-}
-
-/// Refusals in the order 11, 8, 18.
-pub fn distance(memory: &[u8], state: State, told: &Measure) -> After {
-    change(memory, state, |table| table.distance(told))
-}
-
-/// Refusals in the order 11, 8.
-pub fn wipe(memory: &[u8], state: State, station: u32) -> After {
-    change(memory, state, |table| table.wipe(station))
 }

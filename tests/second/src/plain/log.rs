@@ -1,8 +1,9 @@
-//! A log record on a table by hand. The peers that replay a log use it too.
+//! A log record on a table by hand, for the peers that replay a log.
 
 use std::ops::Range;
 
-use super::table::{self, Answer, Distance, State, Wish};
+use super::changes::{self, Distance, Wish};
+use super::table::{is_sound, Answer, State};
 
 pub const ENTRY: usize = 24;
 
@@ -60,15 +61,15 @@ fn call_of(entry: &[u8]) -> Result<Call, u32> {
 #[inline(never)]
 pub fn step(memory: &mut [u8], state: State, entry: &[u8], trusting: bool) -> Answer {
     let call = call_of(entry)?;
-    if !trusting && !table::is_sound(memory, state) {
+    if !trusting && !is_sound(memory, state) {
         return Err(11);
     }
     match call {
-        Call::Clock(slot) => table::clock(memory, state, slot),
-        Call::Reserve(wish) => table::reserve(memory, state, &wish),
+        Call::Clock(slot) => changes::clock(memory, state, slot),
+        Call::Reserve(wish) => changes::reserve(memory, state, &wish),
         Call::Distance(station, distance, limit) => {
-            table::distance(memory, state, station, distance, limit)
+            changes::distance(memory, state, station, distance, limit)
         }
-        Call::Wipe(station) => table::wipe(memory, state, station),
+        Call::Wipe(station) => changes::wipe(memory, state, station),
     }
 }

@@ -1,15 +1,13 @@
-//! The calls of the archive as one would write them by hand, without proofs
-//! and with the same checks: the peers for the benchmark. Nothing is inlined
-//! into the caller, as nothing of an archive can be.
+//! Calls of the archive as one would write them by hand, without proofs and
+//! with the same checks: the peers for the benchmark of those that take no map.
+//! Nothing is inlined into the caller, as nothing of an archive can be.
 
-mod log;
 mod table;
 
 use crate::gemthatch::{self, Block, Place, Reading, Tally, Writing};
-use table::{check_slot, is_sound, records, ADDRESSES, LAST_SLOT};
+use table::{check_slot, is_sound, records, ADDRESSES};
 
-pub use log::step;
-pub use table::{open, Answer, Distance, Record, State, Wish, RECORD};
+pub use table::{Answer, Record, State, RECORD};
 
 fn code_is_invalid(code: u32) -> bool {
     matches!(code, 7 | 14 | 15)
@@ -167,44 +165,6 @@ pub fn parameter(number: u32, figure: u32) -> Answer {
     Ok(0)
 }
 
-fn test(memory: &[u8], state: State) -> Result<(), u32> {
-    if is_sound(memory, state) {
-        Ok(())
-    } else {
-        Err(11)
-    }
-}
-
-#[inline(never)]
-pub fn clock(memory: &mut [u8], state: State, slot: u32) -> Answer {
-    test(memory, state)?;
-    table::clock(memory, state, slot)
-}
-
-#[inline(never)]
-pub fn reserve(memory: &mut [u8], state: State, wish: &Wish) -> Answer {
-    test(memory, state)?;
-    table::reserve(memory, state, wish)
-}
-
-#[inline(never)]
-pub fn distance(
-    memory: &mut [u8],
-    state: State,
-    station: u32,
-    distance: Distance,
-    limit: f64,
-) -> Answer {
-    test(memory, state)?;
-    table::distance(memory, state, station, distance, limit)
-}
-
-#[inline(never)]
-pub fn wipe(memory: &mut [u8], state: State, station: u32) -> Answer {
-    test(memory, state)?;
-    table::wipe(memory, state, station)
-}
-
 /// How a record's blocks are tried for a slot.
 impl Record {
     /// The paper's sentences as they stand.
@@ -250,7 +210,9 @@ fn slot_state(
     slot: u32,
     reserves: impl Fn(&Record) -> bool,
 ) -> Answer {
-    test(memory, state)?;
+    if !is_sound(memory, state) {
+        return Err(11);
+    }
     check_slot(state, slot)?;
     let mut found = FREE;
     for record in records(memory, state) {
@@ -278,18 +240,11 @@ pub fn slot_state_dividing(memory: &[u8], state: State, slot: u32) -> Answer {
     })
 }
 
-/// What a search asks for.
-#[derive(Clone, Copy, Debug)]
-pub struct Range {
-    pub lo: u32,
-    pub hi: u32,
-    pub length: u32,
-    pub wanted: u32,
-}
-
-/// The state of each slot from lo up to, but not including, end.
-fn marks(memory: &[u8], state: State, lo: u32, end: u32) -> Vec<u8> {
-    let mut marks = vec![FREE; (end - lo) as usize];
+/// The map of a sound table: the state of each slot from now on, for so many
+/// slots as a superframe has, marked record by record.
+pub fn map(memory: &[u8], state: State) -> Vec<u8> {
+    let (lo, end) = (state.now, state.now + state.m1);
+    let mut marks = vec![FREE; state.m1 as usize];
     for record in records(memory, state) {
         let mark = if record.far == 0 { TAKEN } else { REUSABLE };
         let spacing = state.m1 / record.rate;
@@ -312,59 +267,6 @@ fn marks(memory: &[u8], state: State, lo: u32, end: u32) -> Vec<u8> {
         }
     }
     marks
-}
-
-#[inline(never)]
-pub fn search(memory: &[u8], state: State, range: &Range, list: &mut [u8]) -> Answer {
-    list.fill(0);
-    let &Range {
-        lo,
-        hi,
-        length,
-        wanted,
-    } = range;
-    test(memory, state)?;
-    if lo < state.now || lo > hi || hi > LAST_SLOT || hi - lo >= state.m1 {
-        return Err(19);
-    }
-    if !(1..=32).contains(&length) {
-        return Err(9);
-    }
-    if !(1..=16).contains(&wanted) {
-        return Err(20);
-    }
-    if list.len() / 4 < wanted as usize {
-        return Err(1);
-    }
-    let (length, wanted) = (length as usize, wanted as usize);
-    // The starts of level 0 and of level 1, and how many there are of each.
-    let mut starts = [[0; 16]; 2];
-    let mut found = [0; 2];
-    // The free slots and those not taken, in a row up to here.
-    let (mut free, mut usable) = (0, 0);
-    let marks = marks(memory, state, lo, hi + range.length);
-    for (at, &mark) in marks.iter().enumerate() {
-        free = if mark == FREE { free + 1 } else { 0 };
-        usable = if mark == TAKEN { 0 } else { usable + 1 };
-        if usable >= length {
-            let level = usize::from(free < length);
-            if found[level] < wanted {
-                starts[level][found[level]] = lo + (at + 1 - length) as u32;
-                found[level] += 1;
-            }
-            if found[0] == wanted {
-                break;
-            }
-        }
-    }
-    let answer = starts[0][..found[0]].iter().chain(&starts[1][..found[1]]);
-    for (place, start) in list.chunks_exact_mut(4).zip(answer.take(wanted)) {
-        place.copy_from_slice(&start.to_le_bytes());
-    }
-    match (found[0] + found[1]).min(wanted) {
-        0 => Err(21),
-        number => Ok(number as u32),
-    }
 }
 
 #[inline(never)]

@@ -1,0 +1,4 @@
+pub mod Map
+pub mod Steps
+pub mod Sequences
+pub mod Claims
