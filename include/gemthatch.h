@@ -252,8 +252,10 @@ GEMTHATCH_MUST_USE uint32_t gemthatch_parameter(uint32_t number, uint32_t figure
  * No call mends a map. Where the table is sound, set each octet i to gemthatch_slot_state of slot now + i, as far as that goes; or replay
  * the channel's log on a table opened anew. What wrote over the map may have written elsewhere too.
  *
- * Working the map out is most of what a call costs. With M1 4500 a call takes some tenths of a microsecond on a table of one record, one to
- * three microseconds on 64 records, and ten to thirty on a full table, up to a hundred where every record has 60 blocks to a superframe.
+ * Working the map out is most of what a call costs. With M1 4500 a call takes half a microsecond or less on a table of one record, some
+ * microseconds on 64 records, some tens of them on a full table, and up to a quarter of a millisecond where every record of it has 60
+ * blocks to a superframe. In superframes of less than 1,920 slots, where such blocks may lie a few slots apart, it can be a millisecond or
+ * two.
  * docs/BENCH.md has the figures, and says how many channels one processor core serves.
  * A call needs at most GEMTHATCH_STACK octets of stack, which a thread with a small one has to have left.
  */
