@@ -81,15 +81,19 @@ module _ (m1 : ℕ) (h : fits m1Row m1 ≡ true) (cs : List Call) where
       let first : sound (opened m1 (packed 1 [])) ≡ true = rw (roomForOne-runs m1 h []) (sound-channelOf (empty m1 1) (roomForOne-sound m1 h)) in
       runs-refined on-a-fresh-map (opened m1 (packed 1 [])) cs first ∙ ap withFresh written
 
+  -- what a search finds goes by the records
   searched : (q : Query) → found (mapAfterCalls m1 cs) q 3 ≡ answer (firstOf (searchTests held q 3)) (listed (statesOf held) q) (λ _. [])
   searched q = rw withMap (found-channelOf held sound-held q 3)
 
+  -- and so does its refusal
   refused : (q : Query) → searchRefusal (mapAfterCalls m1 cs) q 3 ≡ firstOf (searchTests held q 3)
   refused q = rw withMap (searchRefusal-channelOf held sound-held q 3)
 
+  -- and so do the map's octets
   drawn : (d n : ℕ) → d + n ≤ held .m1 → take n (drop d (mapAfterCalls m1 cs .map)) ≡ windowStates (held .m1) (held .records) (held .now + d) n
   drawn d n l = rw withMap (freshMap-part held sound-held d n l)
 
+  -- with another octet at a place a search is refused 25
   wrong : (i x : ℕ) → i < held .m1 → (x ≡ slotStateNumber (held .m1) (held .records) (held .now + i) → ⊥) → (q : Query)
       → searchRefusal (record { channel = mapAfterCalls m1 cs .channel; map = set (mapAfterCalls m1 cs .map) i x }) q 3 ≡ 25
   wrong i x l other q = rw withMap (searchRefusal-wrong held sound-held i x l other q 3)

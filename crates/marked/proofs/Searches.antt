@@ -42,11 +42,12 @@ module _ (t : Table) (k : Sound t) where
   unfolding freshMap channelOf
   freshMap-part d n h = windowStates-drop (t .m1) _ (t .now) (t .m1) d n h ∙ rw (records-channelOf t k)
 
-  -- with one of them changed it is refused 25
   module _ (i x : ℕ) (inside : i < t .m1) (other : x ≡ slotStateNumber (t .m1) (t .records) (t .now + i) → ⊥) where
+    -- the table with one octet of that map changed
     abbrev wrong : Mapped
     wrong = record { channel = channelOf t; map = set (freshMap (channelOf t)) i x }
 
+    -- no other map is right
     wrong-stale : isFresh wrong ≡ false
     unfolding channelOf
     wrong-stale =
@@ -60,6 +61,7 @@ module _ (t : Table) (k : Sound t) where
         ∙ rw (records-channelOf t k))))
         (λ f. f)
 
+    -- so a search is refused 25
     pub searchRefusal-wrong : (q : Query) (places : ℕ) → searchRefusal wrong q places ≡ 25
     unfolding searchRefusal
     searchRefusal-wrong q places = rw (sound-channelOf t k, wrong-stale)
