@@ -3,14 +3,14 @@ use Prim.Native.Nat.{ℕ, _+_, _-_, _<_, _≤_}
 use native.Mathlib.Omega.{arith}
 use mathlib.Core.Path.{_≡_, ap, _∙_}
 use mathlib.Core.Bool.{true}
-use lib.ListN.{length, getD, drop}
+use lib.ListN.{getD, drop}
 use lib.Seq.{getD-drop}
 use borrow.Author.Tests.{leb-true}
 use Rattle.sound.specs.Sound.{records}
 use Rattle.table.specs.Memory.{tableOf}
 use Rattle.slots.specs.Slots.{slotState, stateNumber}
 use Rattle.slotmap.specs.Map.{Mapped, isFresh}
-use Rattle.slotmap.proofs.Fresh.{isFresh-true, fresh-size, fresh-slots}
+use Rattle.slotmap.proofs.Fresh.{isFresh-true, fresh-slots}
 use Rattle.search.specs.declared.Query.{Query}
 use Rattle.search.specs.Search.{slotOf, statesIn, mapStates, statesOf, listed}
 use Rattle.search.specs.Claims.{ListedInMap}
@@ -18,11 +18,7 @@ use Rattle.search.proofs.Window.{window-alone}
 use Rattle.search.proofs.ByOctets.{slotOf-number}
 
 module _ (x : Mapped) (fresh : isFresh x ≡ true) where
-  -- a right map has M1 octets
-  pub map-sized : length (x .map) ≡ x .channel .m1
-  map-sized = ap length (isFresh-true x fresh) ∙ fresh-size (x .channel)
-
-  -- and says the state of each of its slots
+  -- a right map says the state of each of its slots
   in-map : (slot : ℕ) → x .channel .now ≤ slot → slot < x .channel .now + x .channel .m1 → mapStates x slot ≡ statesOf (tableOf (x .channel)) slot
   unfolding tableOf
   in-map slot l k =

@@ -56,7 +56,10 @@ unfolding isFresh
 isFresh-withFresh m = rw (eq-eqb (len (freshMap m)) (m .m1) (fresh-size m), sameOctets-refl (freshMap m))
 
 pub only-fresh-passes : OnlyFreshPasses
-only-fresh-passes x h = ap (λ (p : List ℕ). record { channel = x .channel; map = p }) (isFresh-true x h)
+only-fresh-passes x = (
+  (λ h. ap (λ (p : List ℕ). record { channel = x .channel; map = p }) (isFresh-true x h)),
+  (λ e. ap isFresh e ∙ isFresh-withFresh (x .channel)),
+)
 
 -- of a map of the right size its octets tell
 pub isFresh-sized : (x : Mapped) → len (x .map) ≡ x .channel .m1

@@ -1,5 +1,5 @@
 -- Windows of slot states: wiped, raised in part, moved on, and a map raised in place. Assumes nothing.
-use Prim.Native.Nat.{ℕ, zero, suc, _+_, _-_, _<_, _≤_, max}
+use Prim.Native.Nat.{ℕ, zero, suc, _+_, _-_, _<_, _≤_}
 use native.Mathlib.Omega.{arith}
 use mathlib.Core.Path.{_≡_, refl, sym, ap, _∙_}
 use mathlib.Core.Bool.{Bool, true, false, not, and-eq-true-iff}
@@ -16,9 +16,9 @@ use Rattle.octets.proofs.Copied.{copiedOver-all}
 use Rattle.octets.proofs.ToFront.{Moved, moved-all}
 use Rattle.record.specs.declared.Rec.{Rec}
 use Rattle.table.specs.declared.State.{State}
-use Rattle.slots.specs.Window.{slotStateNumber, windowStates, raised}
+use Rattle.slots.specs.Window.{windowStates, raised}
 use Rattle.slots.proofs.Window.{length-windowStates, take-windowStates, length-raised, window-room}
-use Rattle.slots.proofs.Parts.{window-parts}
+use Rattle.slots.proofs.Parts.{raised-both, window-parts}
 use Rattle.slotmap.specs.Steps.{movesOn, movedBy}
 
 -- ---- a wiped window
@@ -129,18 +129,10 @@ moved-some w p by h =
 -- ---- a map raised in place
 
 module _ (m1 : ℕ) (rs : List Rec) where
-  -- octets before others, raised
-  raised-both : (lo : ℕ) (xs ys : List ℕ) → raised m1 rs lo (xs ++ ys) ≡ raised m1 rs lo xs ++ raised m1 rs (lo + length xs) ys
-  unfolding raised
-  raised-both lo [] ys = let e : lo + 0 ≡ lo = omega arith in rw e
-  raised-both lo (x ∷ xs) ys =
-      let e : lo + 1 + length xs ≡ lo + suc (length xs) = omega arith in
-      ap (λ (zs : List ℕ). max x (slotStateNumber m1 rs lo) ∷ zs) (raised-both (lo + 1) xs ys ∙ ap (λ (k : ℕ). raised m1 rs (lo + 1) xs ++ raised m1 rs k ys) e)
-
   -- octets with others behind them, raised: the first are the first raised
   take-raised : (lo n : ℕ) (xs ys : List ℕ) → length xs ≡ n → take n (raised m1 rs lo (xs ++ ys)) ≡ raised m1 rs lo xs
   take-raised lo n xs ys e =
-      ap (take n) (raised-both lo xs ys) ∙ take-at (raised m1 rs lo xs) (raised m1 rs (lo + length xs) ys) n (length-raised m1 rs lo xs ∙ e)
+      ap (take n) (raised-both m1 rs lo xs ys) ∙ take-at (raised m1 rs lo xs) (raised m1 rs (lo + length xs) ys) n (length-raised m1 rs lo xs ∙ e)
 
   -- octets of a window of their own, raised with room behind them
   room-raised : (lo n : ℕ) (xs ys : List ℕ) → length xs ≡ n → take n (zeroFrom n (raised m1 rs lo (xs ++ ys))) ≡ raised m1 rs lo xs
@@ -192,7 +184,7 @@ module _ (m1 : ℕ) (rs : List Rec) where
         let none : drop (length p′ - most) (drop most p′) ≡ [] = drop-of-length-le (drop most p′) {i = length p′ - most} (omega (arith, front .1)) in
         rw (front .0, over, none, append-nil)
         (ap (λ (i : ℕ). raised m1 rs lo (take most p) ++ raised m1 rs (lo + i) (drop most p)) (sym l)
-        ∙ sym (raised-both lo (take most p) (drop most p))
+        ∙ sym (raised-both m1 rs lo (take most p) (drop most p))
         ∙ ap (raised m1 rs lo) (take-append-drop most p))
 
 -- ---- how many slots a clock moves the map by

@@ -32,7 +32,8 @@ FreshOpened = (m1 : ℕ) (b : List ℕ) → freshMap (opened m1 b) ≡ replicate
 
 -- a map passes exactly where it is the fresh one
 abbrev pub OnlyFreshPasses : Type 0
-OnlyFreshPasses = (x : Mapped) → isFresh x ≡ true → x ≡ withFresh (x .channel)
+OnlyFreshPasses =
+    (x : Mapped) → (isFresh x ≡ true → x ≡ withFresh (x .channel)) × (x ≡ withFresh (x .channel) → isFresh x ≡ true)
 
 -- ---- the calls
 

@@ -101,7 +101,7 @@ module _ (m1 : ℕ) where
   -- ---- with room behind it
 
   -- octets before others, raised
-  raised-both : (rs : List Rec) (lo : ℕ) (xs ys : List ℕ) → raised m1 rs lo (xs ++ ys) ≡ raised m1 rs lo xs ++ raised m1 rs (lo + length xs) ys
+  pub raised-both : (rs : List Rec) (lo : ℕ) (xs ys : List ℕ) → raised m1 rs lo (xs ++ ys) ≡ raised m1 rs lo xs ++ raised m1 rs (lo + length xs) ys
   unfolding raised
   raised-both rs lo [] ys = let e : lo + 0 ≡ lo = omega arith in rw e
   raised-both rs lo (x ∷ xs) ys =

@@ -11,7 +11,8 @@ use borrow.Author.Tests.{leb-true}
 use Rattle.octets.specs.Octets.{holdsOnly}
 use Rattle.slotmap.specs.Map.{Mapped, withMap}
 use Rattle.search.specs.Search.{listed, statesIn}
-use Rattle.search.proofs.InMap.{map-sized, listed-from-lo}
+use Rattle.slotmap.proofs.Fresh.{isFresh-size}
+use Rattle.search.proofs.InMap.{listed-from-lo}
 use Rattle.search.proofs.look_in.Statement.{statement}
 use Rattle.search.proofs.look_in.Tie as tie
 
@@ -21,7 +22,7 @@ given s = withMap (s .args .s) (now (s .args .memory)) (now (s .args .map))
 
 -- the map has M1 octets
 sized : (s : tie.Start) → length (now (s .args .map)) ≡ s .args .s .m1
-sized s = map-sized (given s) (s .pre .0 .4)
+sized s = isFresh-size (given s) (s .pre .0 .4)
 
 abbrev entry : tie.After-struct-known2 → tie.Start
 entry c = c .before .before .before .before .before .before .before

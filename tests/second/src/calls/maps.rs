@@ -1,6 +1,7 @@
 //! The map: what it is, which ones are refused, and what the calls leave of it.
 
 use super::expect;
+use super::marked::T;
 use super::near::{self, once_in, FAR};
 use super::pair::{same_octets, Call, Channel, Counts, Pair};
 use crate::archive::Lent;
@@ -31,17 +32,6 @@ fn expect_map(what: &str, channel: &Channel, runs: &[(u8, usize)]) -> Result<(),
     same_octets("map", &of_runs(runs), channel.map.octets())
         .map_err(|difference| format!("{what}: {difference}"))
 }
-
-const T: Reservation = Reservation {
-    station: 1,
-    rate: 3,
-    superframes: 2,
-    bs: 5,
-    length: 5,
-    bo: 0,
-    distance: UNKNOWN,
-    limit: 150.0,
-};
 
 /// Record T: its first three blocks lie in the map, and later its fourth too.
 fn record_t(pair: &mut Pair) -> Result<(), String> {

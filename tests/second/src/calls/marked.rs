@@ -22,7 +22,8 @@ fn opened(pair: &mut Pair, records: usize, m1: u32, now: u32) -> Result<Channel,
     Ok(channel)
 }
 
-const T: Reservation = Reservation {
+/// Record T of document 01.
+pub const T: Reservation = Reservation {
     station: 1,
     rate: 3,
     superframes: 2,
