@@ -1,4 +1,6 @@
 // The nine octets of a superframe block reservation, read and written; the rate lookup; the parameter check.
+#![tactic(auto)]
+
 ghost use Rattle.std.specs.Prelude.{◌<◌, ◌≡◌, false, cond, [], ◌∷◌, leb, eqb};
 ghost use Rattle.octets.specs.Lists.{every};
 ghost use Rattle.octets.specs.Refusals.{first_of};
@@ -12,14 +14,14 @@ ghost use Rattle.codec.specs.Steps.{Fitting, columns};
 
 // Who is to re-broadcast the reservation: the station of an address, or nobody, which is said by a re-broadcast offset equal to bs. Then
 // the three octets before blg's belong to the information field, and are kept as they stand.
-#[derive(Drop)]
+#[derive(Clone, Copy)]
 pub enum Destination {
     Address(u32),
     NoRebroadcast(u8, u8, u8),
 }
 
 // The fields of a reservation.
-#[derive(Drop)]
+#[derive(Clone, Copy)]
 pub struct Block {
     pub d: Destination,
     pub blg: u32,
@@ -31,7 +33,7 @@ pub struct Block {
 }
 
 // What reading gives: the refusal, 0 for none, and the fields, address 0 and all others 0 where it is refused.
-#[derive(Drop)]
+#[derive(Clone, Copy)]
 pub struct Reading {
     pub refusal: u32,
     pub block: Block,
@@ -40,7 +42,7 @@ pub struct Reading {
 // What writing gives: the refusal, 0 for none, and the nine octets, all 0 where it is refused. Laid out as in C: it crosses to a C host as
 // it is.
 #[repr(C)]
-#[derive(Drop)]
+#[derive(Clone, Copy)]
 pub struct Writing {
     pub refusal: u32,
     pub octets: [u8; 9],
@@ -286,7 +288,7 @@ pub fn write(b: Block) -> Writing
 // ---- the rates
 
 // What a lookup gives: the refusal, 0 for none, and the number found, 0 where it is refused.
-#[derive(Drop)]
+#[derive(Clone, Copy)]
 pub struct Lookup {
     pub refusal: u32,
     pub number: u32,

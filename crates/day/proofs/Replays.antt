@@ -49,10 +49,6 @@ stepped {place = place} {a = a} {line} e f g h w =
 
 -- ---- the first log records of a log
 
--- none yet
-pub went_none : (m : Channel) (place : ℕ) (s t : List ℕ) → Went m place s t 0 (record { state = state_of m; place = place; length = 0 }) m.memory t
-went_none m place s t = record { left = refl; next = omega arith; wrote = record { place = refl; holds = refl }; short = omega arith }
-
 -- one more
 pub went_next : {m : Channel} {place k : ℕ} {s t x u y v : List ℕ} {r q : Replayed}
     → k < entry_count s → Went m place s t k r x u → Stepped (channel r.state x) (entry_at s k) r.place r.length u q y v

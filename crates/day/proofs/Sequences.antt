@@ -47,7 +47,7 @@ module _ {S C W : Type 0} (k : Machine S C W) where
 -- the lines of answers and then of others, which stand further on
 pub lines_from_append : (place : ℕ) (es fs : List (List ℕ × Said)) → lines_from place (es ++ fs) ≡ lines_from place es ++ lines_from (place + len es) fs
 lines_from_append place [] fs = rw add-zero
-lines_from_append place (e ∷ es) fs = rw (lines_from_append _ es fs, add_assoc place 1 (len es), one-add)
+lines_from_append place (e ∷ es) fs = rw (lines_from_append (place + 1) es fs, add_assoc place 1 (len es), one-add)
 
 -- one line more
 pub lines_from_next : (place : ℕ) (es : List (List ℕ × Said)) (o : List ℕ) (w : Said)
@@ -58,12 +58,12 @@ lines_from_next place es o w = lines_from_append place es ((o, w) ∷ [])
 pub lines_from-take : (n place : ℕ) (es : List (List ℕ × Said)) → lines_from place (take n es) ≡ take n (lines_from place es)
 lines_from-take zero place es = refl
 lines_from-take (suc n) place [] = refl
-lines_from-take (suc n) place (e ∷ es) = ap (λ ls. said_line place e.1.refusal e.1.number ∷ ls) (lines_from-take n _ es)
+lines_from-take (suc n) place (e ∷ es) = ap (λ ls. said_line place e.1.refusal e.1.number ∷ ls) (lines_from-take n (place + 1) es)
 
 -- a line for each answer
 pub length-lines_from : (place : ℕ) (es : List (List ℕ × Said)) → len (lines_from place es) ≡ len es
 length-lines_from place [] = refl
-length-lines_from place (e ∷ es) = ap suc (length-lines_from _ es)
+length-lines_from place (e ∷ es) = ap suc (length-lines_from (place + 1) es)
 
 -- ---- joined
 

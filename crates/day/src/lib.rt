@@ -1,4 +1,6 @@
 // A recorded day: a log replayed on a table with a line for each log record, and the table at a moment.
+#![tactic(auto)]
+
 ghost use Rattle.std.specs.Prelude.{◌≡◌, ◌+◌, ◌*◌, ◌^◌, ◌<◌, ◌≤◌, length, take};
 ghost use Rattle.octets.specs.Octets.{holds_only};
 ghost use Rattle.record.specs.Record.{capacity, all_records};
@@ -13,7 +15,7 @@ use lines::Line;
 use table::State;
 
 // Where a replay stands: the state, the place of the next log record, and how many octets of text there are.
-#[derive(Drop)]
+#[derive(Clone, Copy)]
 pub struct Replayed {
     pub state: State,
     pub place: u64,

@@ -1,4 +1,6 @@
 // The records of a channel log: what each asks of the table, and the step that applies one.
+#![tactic(auto)]
+
 ghost use Rattle.std.specs.Prelude.{◌≡◌, [], ◌∷◌, length};
 ghost use Rattle.octets.specs.Octets.{zeros};
 ghost use Rattle.distance.specs.Distances.{num};
@@ -13,7 +15,7 @@ use table::{Answer, Request, State};
 pub const ENTRY: usize = 24;
 
 // The numbers of a log record, in the order in which they stand there. The slot is a reserve's bs; `closing` are the three zeros at the end.
-#[derive(Drop)]
+#[derive(Clone, Copy)]
 struct LogRecord {
     operation: u8,
     rate: u8,
@@ -28,7 +30,7 @@ struct LogRecord {
 }
 
 // What a log record asks for: a call of the table, or none, which is refused 23.
-#[derive(Drop)]
+#[derive(Clone, Copy)]
 pub enum LoggedCall {
     Clock(u32),
     Reserve(Request),

@@ -1,17 +1,19 @@
 // Distances, and which of them are far; the reuse limit.
+#![tactic(auto)]
+
 ghost use Rattle.std.specs.Prelude.{◌≡◌};
 ghost use Rattle.distance.specs.Distances.{between, offset_far, is_far, limit_fits, distance_of};
 ghost use Rattle.distance.specs.Claims.{Claims};
 
 // An offset as the navigation unit hands it over: how far to the east and to the north, in nautical miles.
-#[derive(Drop)]
+#[derive(Clone, Copy)]
 pub struct Offset {
     pub east: f64,
     pub north: f64,
 }
 
 // A distance as the navigation unit hands it over: unknown, a range in nautical miles, or an offset.
-#[derive(Drop)]
+#[derive(Clone, Copy)]
 pub enum Distance {
     Unknown,
     Range(f64),

@@ -1,5 +1,7 @@
 // What a C host calls, and nothing else: each call hands its numbers and octets to the crate that does the work, and its answer back as
 // one number. include/gemthatch.h is the manual. The state's now is called `time` here, since contracts use that word.
+#![tactic(auto)]
+
 ghost use Rattle.std.specs.Prelude.{◌≡◌, [], ◌*◌, ◌≤◌, length, length as len, take};
 ghost use Rattle.octets.specs.Octets.{holds_only};
 ghost use Rattle.octets.specs.Refusals.{first_of};
@@ -26,7 +28,7 @@ use walk::Handed;
 // The fields of a reservation as a C host has them: the destination's kind, 0 an address and 1 no re-broadcast, the address, the three
 // octets, and the other fields.
 #[repr(C)]
-#[derive(Drop)]
+#[derive(Clone, Copy)]
 pub struct HostBlock {
     pub destination: u32,
     pub d: u32,
@@ -41,7 +43,7 @@ pub struct HostBlock {
 
 // What reading gives a C host: the bare refusal, 0 for none, and the fields, all 0 where it is refused.
 #[repr(C)]
-#[derive(Drop)]
+#[derive(Clone, Copy)]
 pub struct HostReading {
     pub refusal: u32,
     pub block: HostBlock,
@@ -49,7 +51,7 @@ pub struct HostReading {
 
 // What a walk hands out at a place: the bare refusal, how many records (1, or 0 for no more), and the record, all 0 where there is none.
 #[repr(C)]
-#[derive(Drop)]
+#[derive(Clone, Copy)]
 pub struct Place {
     pub refusal: u32,
     pub handed: u32,

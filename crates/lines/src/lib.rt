@@ -1,4 +1,6 @@
 // Every line that a program writes: the listing of nine-octet groups, put into a lent text; those of a replayed log and of a table by value.
+#![tactic(auto)]
+
 ghost use Rattle.std.specs.Prelude.{◌≡◌, cond, [], ◌∷◌, ◌++◌, ◌+◌, ◌*◌, ◌<◌, ◌≤◌, nat_abs, length};
 ghost use Rattle.octets.specs.Octets.{holds_only};
 ghost use Rattle.octets.specs.Refusals.{answer};
@@ -18,7 +20,7 @@ pub const LONGEST: usize = 31;
 pub const LINE: usize = 43;
 
 // A line by value: its length, and its octets, the rest 0.
-#[derive(Drop)]
+#[derive(Clone, Copy)]
 pub struct Line {
     pub length: usize,
     pub octets: [u8; LINE],

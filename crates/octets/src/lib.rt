@@ -1,4 +1,6 @@
 // Little-endian numbers in octets, two's complement, octets that are 0, octets compared, and octets copied.
+#![tactic(auto)]
+
 ghost use Rattle.std.specs.Prelude.{◌≡◌, ◌+◌, ◌<◌, ◌≤◌, ◌&&◌, ◌∷◌, [], ◌++◌, eqb, length, take, drop};
 ghost use Rattle.octets.specs.Octets.{little, number, number_at, put_at, zeros, zero_from, to_front, same_octets, copied_over};
 ghost use Rattle.octets.specs.Complement.{signed_of, octet_of, lifted};

@@ -1,4 +1,6 @@
 // Records in lent memory, 16 octets each. Nothing above this crate knows how they lie there.
+#![tactic(auto)]
+
 ghost use Rattle.std.specs.Prelude.{◌≡◌, cond, ltb, ◌<◌, ◌≤◌, min, length, get_or, set, take};
 ghost use Rattle.octets.specs.Octets.{zeros};
 ghost use Rattle.record.specs.Record.{size, encode, decode, blank, whole, capacity, rest, clear_after, clear_between, all_records, stored, copied};
@@ -9,7 +11,7 @@ pub const SIZE: usize = 16;
 
 // The three octets behind bo.
 #[repr(C)]
-#[derive(Drop)]
+#[derive(Clone, Copy)]
 pub struct Zeros {
     pub a: u8,
     pub b: u8,
@@ -18,7 +20,7 @@ pub struct Zeros {
 
 // A record of the table; bo is its octet. It is laid out as in C: it crosses to a C host as it is.
 #[repr(C)]
-#[derive(Drop)]
+#[derive(Clone, Copy)]
 pub struct Rec {
     pub station: u32,
     pub first: u32,

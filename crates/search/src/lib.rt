@@ -1,4 +1,6 @@
 // The search for blocks of slots that may be used, along the map or over the promise of a window's slot states; and pick.
+#![tactic(auto)]
+
 ghost use Rattle.std.specs.Prelude.{◌≡◌, true, [], ◌++◌, ◌+◌, ◌-◌, ◌≤◌, ◌<◌, leb, length, length as len, take};
 ghost use Rattle.octets.specs.Octets.{holds_only};
 ghost use Rattle.octets.specs.Refusals.{first_of};
@@ -12,7 +14,7 @@ use slots::Part;
 use table::State;
 
 // What a search is given: where a block may start, its length, and how many starts are wanted.
-#[derive(Drop)]
+#[derive(Clone, Copy)]
 pub struct Query {
     pub lo: u32,
     pub hi: u32,
@@ -21,14 +23,14 @@ pub struct Query {
 }
 
 // What a search gives: the refusal, 0 for none, and the number found.
-#[derive(Drop)]
+#[derive(Clone, Copy)]
 pub struct Found {
     pub refusal: u32,
     pub number: u32,
 }
 
 // What a pick gives: the refusal, 0 for none, and the place in the list.
-#[derive(Drop)]
+#[derive(Clone, Copy)]
 pub struct Picked {
     pub refusal: u32,
     pub place: u32,

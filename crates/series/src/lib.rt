@@ -1,4 +1,6 @@
 // The block series of a record: which slots it reserves, and its last one.
+#![tactic(auto)]
+
 ghost use Rattle.std.specs.Prelude.{◌≡◌, ◌+◌, ◌-◌, ◌*◌, ◌/◌, ◌<◌, ◌≤◌, min, if◌then◌else◌, nat_eq, nat_lt};
 ghost use Rattle.octets.specs.Complement.{lifted};
 ghost use Rattle.series.specs.Series.{in_series, further_from, reserves, last_slot};

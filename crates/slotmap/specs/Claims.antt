@@ -2,7 +2,6 @@
 use Rattle.std.specs.Prelude.{ℕ, ◌+◌, ◌<◌, ◌≡◌, true, List, length as len, get_or, replicate}
 use Rattle.octets.specs.Refusals.{first_of}
 use Rattle.sound.specs.Sound.{Channel, records, sound}
-use Rattle.table.specs.declared.State.{State}
 use Rattle.table.specs.declared.Answer.{Answer}
 use Rattle.table.specs.Table.{Call, call_tests}
 use Rattle.table.specs.Memory.{table_of, opened}

@@ -1,4 +1,6 @@
 // The slot map beside the table: the table's calls with a lent map of the slots now to now+M1-1, which each of them tests and keeps.
+#![tactic(auto)]
+
 ghost use Rattle.std.specs.Prelude.{◌≡◌, true, ◌&&◌, [], ◌∷◌, ◌++◌, ◌+◌, ◌-◌, ◌≤◌, ◌<◌, leb, eqb, length, take, drop};
 ghost use Rattle.octets.specs.Octets.{holds_only, same_octets};
 ghost use Rattle.octets.specs.Refusals.{first_of};
@@ -17,7 +19,7 @@ use slots::Part;
 use table::{Answer, Request, State};
 
 // What changes of a station: whether it is far, or that it leaves.
-#[derive(Drop)]
+#[derive(Clone, Copy)]
 enum Change {
     SetDistance(Distance, f64),
     Leave,

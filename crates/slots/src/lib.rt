@@ -1,4 +1,6 @@
 // The state of a slot by the records of a table, and the states of the slots of a window, worked out record by record.
+#![tactic(auto)]
+
 ghost use Rattle.std.specs.Prelude.{◌≡◌, true, cond, not, ◌&&◌, ℕ, ◌+◌, ◌-◌, ◌*◌, ◌/◌, ◌≤◌, ◌<◌, min, max, leb, ltb, length as len, drop};
 ghost use Rattle.octets.specs.Octets.{zero_from, holds_only};
 ghost use Rattle.record.specs.Record.{capacity};
@@ -14,7 +16,7 @@ use record::Rec;
 use table::State;
 
 // A slot's state.
-#[derive(Drop)]
+#[derive(Clone, Copy)]
 pub enum Slot {
     Free,
     Reusable,
@@ -22,14 +24,14 @@ pub enum Slot {
 }
 
 // What a slot state gives: the state; refused, its number alone.
-#[derive(Drop)]
+#[derive(Clone, Copy)]
 pub enum SlotAnswer {
     Is(Slot),
     Refused(u32),
 }
 
 // Some of a table's records: all, those from a place on, those of a station, those of the other stations.
-#[derive(Drop)]
+#[derive(Clone, Copy)]
 pub enum Part {
     All,
     From(u32),
@@ -38,7 +40,7 @@ pub enum Part {
 }
 
 // Blocks of so many slots, one after the other at a spacing.
-#[derive(Drop)]
+#[derive(Clone, Copy)]
 struct Series {
     start: u64,
     spacing: u64,
@@ -48,7 +50,7 @@ struct Series {
 
 // Superframes of a record's blocks, with 128 added to their slots: of its own, M1 slots each and the first from `from` on, those from `first` up to
 // `own`, and then, where `all` is one more, the further one, from `next` on.
-#[derive(Drop)]
+#[derive(Clone, Copy)]
 struct Superframes {
     from: u64,
     m1: u64,
@@ -59,7 +61,7 @@ struct Superframes {
 }
 
 // The first of some superframes, and the first behind them.
-#[derive(Drop)]
+#[derive(Clone, Copy)]
 struct Bounds {
     first: u64,
     behind: u64,

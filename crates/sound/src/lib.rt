@@ -1,4 +1,6 @@
 // Whether a table in lent memory is sound.
+#![tactic(auto)]
+
 ghost use Rattle.std.specs.Prelude.{◌≡◌, true, ◌&&◌, ◌*◌, ◌/◌, ◌≤◌, take};
 ghost use Rattle.octets.specs.Lists.{every};
 ghost use Rattle.octets.specs.Refusals.{within};

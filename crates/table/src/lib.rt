@@ -1,4 +1,6 @@
 // The reservation table in lent memory: the calls.
+#![tactic(auto)]
+
 ghost use Rattle.std.specs.Prelude.{◌≡◌, true, ℕ, ◌+◌, ◌*◌, ◌≤◌, ◌<◌, ltb, length, get_or, set, take};
 ghost use Rattle.octets.specs.Lists.{keep, has, every};
 ghost use Rattle.octets.specs.Refusals.{first_of};
@@ -14,7 +16,7 @@ use distance::Distance;
 use record::{Rec, Zeros};
 
 // What stands beside the lent memory. It travels by value.
-#[derive(Drop)]
+#[derive(Clone, Copy)]
 pub struct State {
     pub m1: u32,
     pub now: u32,
@@ -22,7 +24,7 @@ pub struct State {
 }
 
 // What a call gives: the refusal, 0 for none, the number reported, and the state from here on.
-#[derive(Drop)]
+#[derive(Clone, Copy)]
 pub struct Answer {
     pub refusal: u32,
     pub number: u32,
@@ -30,7 +32,7 @@ pub struct Answer {
 }
 
 // What reserve is given.
-#[derive(Drop)]
+#[derive(Clone, Copy)]
 pub struct Request {
     pub station: u32,
     pub rate: u32,
@@ -43,7 +45,7 @@ pub struct Request {
 }
 
 // Which records stay: by time those that are not over at a slot, in a table of m1 slots; else those of another station.
-#[derive(Drop)]
+#[derive(Clone, Copy)]
 struct Stay {
     timed: bool,
     station: u32,

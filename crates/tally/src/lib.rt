@@ -1,11 +1,13 @@
 // The tally of accepted and refused calls.
+#![tactic(auto)]
+
 ghost use Rattle.std.specs.Prelude.{◌≡◌, cond};
 ghost use Rattle.tally.specs.Calls.{one_more, counted};
 ghost use Rattle.tally.specs.Claims.{Claims};
 
 // How many calls were accepted and how many refused, each up to the largest u32. It is laid out as in C: a C host lends it as it is.
 #[repr(C)]
-#[derive(Drop)]
+#[derive(Clone, Copy)]
 pub struct Tally {
     pub accepted: u32,
     pub refused: u32,

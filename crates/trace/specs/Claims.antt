@@ -9,7 +9,7 @@ use Rattle.sound.specs.Sound.{Channel, sound}
 use Rattle.table.specs.declared.State.{State}
 use Rattle.table.specs.declared.Answer.{Answer}
 use Rattle.table.specs.declared.Request.{Request}
-use Rattle.table.specs.Table.{Table, Call, reserve, wipe, look, call_tests}
+use Rattle.table.specs.Table.{Table, Call, reserve, wipe, call_tests}
 use Rattle.table.specs.Memory.{channel, table_of, channel_of, leaves, says, Gives, open_refusal, opened, OpenGives}
 use Rattle.trace.specs.Machine.{runs, Refines}
 use Rattle.trace.specs.Sequences.{on_octets, Called, only, without, WithoutTrace, MadeWithoutTrace}

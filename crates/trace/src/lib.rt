@@ -1,4 +1,6 @@
 // Sequences of calls on one table: demand 3, and what else holds of the calls together.
+#![tactic(auto)]
+
 ghost use Rattle.table.specs.Table.{clock, reserve, distance, wipe};
 ghost use Rattle.table.specs.Memory.{channel, Gives, OpenGives};
 ghost use Rattle.trace.specs.Claims.{Claims};

@@ -1,4 +1,6 @@
 // A walk over a table: a view holds the lent memory, and hands out record after record, in order, and then no more.
+#![tactic(auto)]
+
 ghost use Rattle.std.specs.Prelude.{◌≡◌, take, drop};
 ghost use Rattle.record.specs.Record.{all_records};
 ghost use Rattle.table.specs.Memory.{channel};
@@ -10,7 +12,7 @@ use record::Rec;
 use table::State;
 
 // The lent memory, the number of the next record, and how many records there are.
-#[derive(Drop)]
+#[derive(Clone, Copy)]
 pub struct View<'a> {
     pub memory: &'a [u8],
     pub next: u32,
@@ -18,42 +20,42 @@ pub struct View<'a> {
 }
 
 // What a walk hands out: a record, or that there is no more.
-#[derive(Drop)]
+#[derive(Clone, Copy)]
 pub enum Handed {
     One(Rec),
     NoMore,
 }
 
 // What begin gives: the refusal, 0 for none, and the view. Refused, the view has no record to hand out.
-#[derive(Drop)]
+#[derive(Clone, Copy)]
 pub struct Begun<'a> {
     pub refusal: u32,
     pub view: View<'a>,
 }
 
 // What next gives: what is handed out, and the view from there on.
-#[derive(Drop)]
+#[derive(Clone, Copy)]
 pub struct Step<'a> {
     pub handed: Handed,
     pub view: View<'a>,
 }
 
 // What record_at gives: the refusal, 0 for none, and what a walk hands out at the place.
-#[derive(Drop)]
+#[derive(Clone, Copy)]
 pub struct WalkAnswer {
     pub refusal: u32,
     pub handed: Handed,
 }
 
 // How a walk starts: the refusal, 0 for none, and how many records it has to hand out.
-#[derive(Drop)]
+#[derive(Clone, Copy)]
 struct Start {
     refusal: u32,
     count: u32,
 }
 
 // What is handed out at a place, and the place after it.
-#[derive(Drop)]
+#[derive(Clone, Copy)]
 struct Reached {
     handed: Handed,
     next: u32,

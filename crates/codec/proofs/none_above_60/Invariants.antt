@@ -1,0 +1,17 @@
+use Prim.Native.Nat.{ℕ, ◌-◌}
+use mathlib.Core.Path.{◌≡◌}
+use mathlib.Core.Bool.{Bool, ◌&&◌}
+use lib.Dec.{leb}
+use lib.ListN.{length, drop}
+use Rattle.octets.specs.Lists.{every}
+use Rattle.codec.proofs.none_above_60.Given as goal
+
+-- an entry that is not above 60
+abbrev pub low : ℕ → Bool
+low x = leb x 60
+
+abbrev pub invariant-loop-i : goal.invariant-loop-i
+invariant-loop-i l = every low l.rates ≡ (l.so_far && every low (drop l.i l.rates))
+
+abbrev pub decreases-loop-i : goal.decreases-loop-i
+decreases-loop-i l = length l.rates - l.i

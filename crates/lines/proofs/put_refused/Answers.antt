@@ -1,0 +1,17 @@
+-- `lines::put_refused` meets its contract: the word, and then the number. Assumes nothing.
+use Rattle.lines.specs.Listing.{refused_line}
+use Rattle.lines.specs.Steps.{field}
+use Rattle.lines.proofs.Wrote.{and_then, room_first, room_then}
+use Rattle.lines.proofs.put_refused.Goals as goal
+
+pub put_text-i-requires : goal.put_text-i-requires
+unfolding refused_line
+put_text-i-requires c = room_first (field c.args.n 10) c.requires
+
+pub put_field-requires : goal.put_field-requires
+unfolding refused_line
+put_field-requires c = room_then c.requires c.put_text-i.ensures
+
+pub returns : goal.returns
+unfolding refused_line
+returns c = and_then c.put_text-i.ensures c.put_field.ensures

@@ -1,0 +1,13 @@
+-- `slots::mark_block` meets its contract: the places of the block's slots in the window are a run. Assumes nothing.
+use Prim.Native.Nat.{◌+◌, ◌-◌}
+use native.Mathlib.Omega.{arith}
+use Rattle.series.specs.Series.{in_block}
+use Rattle.slots.proofs.Tests.{from_up_to_block}
+use Rattle.slots.proofs.Marks.{marked_agree, marked_within}
+use Rattle.slots.proofs.mark_block.Goals as goal
+
+pub returns : goal.returns
+returns c =
+    let a = c.args in
+    marked_agree (λ i. in_block a.start a.length (a.lo + i)) (marked_within (a.end - a.lo) c.mark_run.ensures (omega (arith, c.requires.0.behind))) (λ i l.
+    rw (c.less-from.ensures, c.less-to.ensures, c.lesser.ensures) (from_up_to_block a.lo a.end a.start a.length i l))
