@@ -1,12 +1,14 @@
 // Document 01's marked cases, and those of No. 4 and No. 5: one claim over the definitions, and the same cases run through the functions. Beside them run
 // cases of slips that the marked ones let through, the parameters' defaults, and 000's example of a superframe block reservation.
+#![tactic(auto)]
+
 ghost use Rattle.std.specs.Prelude.{◌≤◌, ◌<◌};
 ghost use Rattle.marked.specs.Marked.{Marked};
 
 use distance::{Distance, Offset};
-use libc::STDOUT_FILENO;
 use search::Query;
 use slots::{Slot, SlotAnswer};
+use std::io;
 use table::{Request, State};
 
 // Every marked case holds of the definitions that the functions promise.
@@ -17,54 +19,50 @@ fn claims()
 // ---- what is written: a line's name, its items with a space in front of each, and its end
 
 // Tells why standard output could not be written, unless it was.
-fn tell_unless(is_written: bool) {
-    if !is_written {
-        os::fail(b"marked: standard output");
+fn tell_unless(rt: &impl Eprint, written: io::Result<()>) {
+    if let Err(error) = written {
+        let _ = eprintln!(rt; "marked: standard output: {error}");
     }
 }
 
-fn put(text: &[u8]) {
-    tell_unless(io::write_all(STDOUT_FILENO, text));
+fn put(rt: &(impl Print + Eprint), text: &[u8]) {
+    tell_unless(rt, rt.write_all(text));
 }
 
-fn put_number(n: u64) {
-    put(b" ");
-    tell_unless(io::print_decimal(STDOUT_FILENO, n));
+fn put_number(rt: &(impl Print + Eprint), n: u64) {
+    put(rt, b" ");
+    tell_unless(rt, rt.print(n));
 }
 
-fn put_numbers(list: &[u32]) {
-    let mut i = 0;
-    while i < list.len() {
-        put_number(list[i] as u64);
-        i += 1;
+fn put_numbers(rt: &(impl Print + Eprint), list: &[u32]) {
+    for n in list {
+        put_number(rt, u64::from(*n));
     }
 }
 
-fn put_octets(list: &[u8]) {
-    let mut i = 0;
-    while i < list.len() {
-        put_number(list[i] as u64);
-        i += 1;
+fn put_octets(rt: &(impl Print + Eprint), list: &[u8]) {
+    for n in list {
+        put_number(rt, u64::from(*n));
     }
 }
 
-fn put_refused(n: u32) {
-    put(b" refused");
-    put_number(n as u64);
+fn put_refused(rt: &(impl Print + Eprint), n: u32) {
+    put(rt, b" refused");
+    put_number(rt, n as u64);
 }
 
-fn put_state(x: Slot) {
+fn put_state(rt: &(impl Print + Eprint), x: Slot) {
     match x {
-        Slot::Free => put(b" free"),
-        Slot::Reusable => put(b" reusable"),
-        Slot::Taken => put(b" taken"),
+        Slot::Free => put(rt, b" free"),
+        Slot::Reusable => put(rt, b" reusable"),
+        Slot::Taken => put(rt, b" taken"),
     }
 }
 
-fn put_slot(s: State, memory: &[u8], slot: u32) {
+fn put_slot(rt: &(impl Print + Eprint), s: State, memory: &[u8], slot: u32) {
     match slots::slot_state(s, memory, slot) {
-        SlotAnswer::Is(x) => put_state(x),
-        SlotAnswer::Refused(n) => put_refused(n),
+        SlotAnswer::Is(x) => put_state(rt, x),
+        SlotAnswer::Refused(n) => put_refused(rt, n),
     }
 }
 
@@ -76,7 +74,8 @@ const P2: [u8; 9] = [0xFF, 0xFF, 0xFF, 0xFF, 0xFF, 0x0D, 0xFF, 0x7F, 0x13];
 
 // A group with another octet k, counted from 1.
 fn with(group: [u8; 9], k: usize, octet: u8) -> [u8; 9]
-    requires { (1 ≤ k) × (k ≤ 9) }
+    requires first { 1 ≤ k }
+    requires last { k ≤ 9 }
 {
     let mut octets = group;
     octets[k - 1] = octet;
@@ -84,20 +83,20 @@ fn with(group: [u8; 9], k: usize, octet: u8) -> [u8; 9]
 }
 
 // A group's line, which the listing ends.
-fn put_group(name: &[u8], octets: &[u8]) {
+fn put_group(rt: &(impl Print + Eprint), name: &[u8], octets: &[u8]) {
     let mut text = [0u8; lines::LONGEST];
     let n = lines::list(octets, &mut text);
-    put(name);
-    put(b" ");
-    put(&text[..n]);
+    put(rt, name);
+    put(rt, b" ");
+    put(rt, &text[..n]);
 }
 
-fn put_readings() {
-    put_group(b"P1", &P1);
-    put_group(b"P2", &P2);
-    put_group(b"P2 with bs 254:", &with(P2, 7, 0xFE));
-    put_group(b"P3", &with(P1, 8, 0x80));
-    put_group(b"P4", &with(P1, 7, 0x01));
+fn put_readings(rt: &(impl Print + Eprint)) {
+    put_group(rt, b"P1", &P1);
+    put_group(rt, b"P2", &P2);
+    put_group(rt, b"P2 with bs 254:", &with(P2, 7, 0xFE));
+    put_group(rt, b"P3", &with(P1, 8, 0x80));
+    put_group(rt, b"P4", &with(P1, 7, 0x01));
 }
 
 // ---- P5 to P10: record T, alone in its table
@@ -131,52 +130,66 @@ fn reserve_t(memory: &mut [u8], bo: i32, distance: Distance) -> State {
 }
 
 // The last slot of the table's first record.
-fn put_last_slot(name: &[u8], s: State, memory: &[u8]) {
-    put(name);
-    put_number(series::last_slot(record::load(memory, 0), s.m1));
-    put(b"\n");
+fn put_last_slot(rt: &(impl Print + Eprint), name: &[u8], s: State, memory: &[u8]) {
+    put(rt, name);
+    put_number(rt, series::last_slot(record::load(memory, 0), s.m1));
+    put(rt, b"\n");
 }
 
-fn put_slots(s: State, memory: &[u8]) {
-    put(b"P6");
-    put_slot(s, memory, 104);
-    put_slot(s, memory, 110);
-    put_slot(s, memory, 105);
-    put_slot(s, memory, 109);
-    put(b"\n");
+fn put_slots(rt: &(impl Print + Eprint), s: State, memory: &[u8]) {
+    put(rt, b"P6");
+    put_slot(rt, s, memory, 104);
+    put_slot(rt, s, memory, 110);
+    put_slot(rt, s, memory, 105);
+    put_slot(rt, s, memory, 109);
+    put(rt, b"\n");
 }
 
 // What a clock answers, made on a copy of T's table: the refusal, if any, now, how many records were dropped, and whether T is there.
-fn put_clock(s: State, memory: [u8; record::SIZE], slot: u32) {
+fn put_clock(rt: &(impl Print + Eprint), s: State, memory: [u8; record::SIZE], slot: u32) {
     let mut left = memory;
     let a = s.clock(&mut left, slot);
     if a.refusal != 0 {
-        put_refused(a.refusal);
+        put_refused(rt, a.refusal);
     }
-    put(b" now");
-    put_number(a.state.now as u64);
-    put(b" dropped");
-    put_number(a.number as u64);
+    put(rt, b" now");
+    put_number(rt, a.state.now as u64);
+    put(rt, b" dropped");
+    put_number(rt, a.number as u64);
     if a.state.count == 1 {
-        put(b" kept");
+        put(rt, b" kept");
     } else {
-        put(b" gone");
+        put(rt, b" gone");
     }
 }
 
 // At its last slot, and one later.
-fn put_clocks(name: &[u8], s: State, memory: [u8; record::SIZE], last: u32)
+fn put_clocks(
+    rt: &(impl Print + Eprint),
+    name: &[u8],
+    s: State,
+    memory: [u8; record::SIZE],
+    last: u32,
+)
     requires { last < 1000000000 }
 {
-    put(name);
-    put_clock(s, memory, last);
-    put(b",");
-    put_clock(s, memory, last + 1);
-    put(b"\n");
+    put(rt, name);
+    put_clock(rt, s, memory, last);
+    put(rt, b",");
+    put_clock(rt, s, memory, last + 1);
+    put(rt, b"\n");
 }
 
 // What a search for three blocks of two slots gives. A refused one finds none.
-fn put_search(name: &[u8], s: State, memory: &[u8], map: &[u8], lo: u32, hi: u32) {
+fn put_search(
+    rt: &(impl Print + Eprint),
+    name: &[u8],
+    s: State,
+    memory: &[u8],
+    map: &[u8],
+    lo: u32,
+    hi: u32,
+) {
     let q = Query {
         lo,
         hi,
@@ -186,12 +199,12 @@ fn put_search(name: &[u8], s: State, memory: &[u8], map: &[u8], lo: u32, hi: u32
     let mut list = [0u32; 3];
     let found = search::search(s, memory, map, q, &mut list);
     let n = found.number as usize;
-    put(name);
+    put(rt, name);
     if found.refusal != 0 {
-        put_refused(found.refusal);
+        put_refused(rt, found.refusal);
     }
-    put_numbers(&list[..n]);
-    put(b"\n");
+    put_numbers(rt, &list[..n]);
+    put(rt, b"\n");
 }
 
 // T's table with its map beside it.
@@ -202,115 +215,115 @@ fn reserve_mapped(memory: &mut [u8], map: &mut [u8], distance: Distance) -> Stat
 }
 
 // What a search gives in it, made anew.
-fn put_search_t(name: &[u8], distance: Distance, lo: u32, hi: u32) {
+fn put_search_t(rt: &(impl Print + Eprint), name: &[u8], distance: Distance, lo: u32, hi: u32) {
     let mut memory = [0u8; record::SIZE];
     let mut map = [0u8; 4500];
     let s = reserve_mapped(&mut memory, &mut map, distance);
-    put_search(name, s, &memory, &map, lo, hi);
+    put_search(rt, name, s, &memory, &map, lo, hi);
 }
 
-fn put_t() {
+fn put_t(rt: &(impl Print + Eprint)) {
     let mut memory = [0u8; record::SIZE];
     let near = reserve_t(&mut memory, 0, Distance::Unknown);
-    put_last_slot(b"P5", near, &memory);
-    put_slots(near, &memory);
-    put_clocks(b"P7", near, memory, 7609);
-    put_search_t(b"P8", Distance::Unknown, 105, 111);
-    put_search_t(b"P9", Distance::Range(LIMIT), 105, 111);
-    put_search_t(b"P10", Distance::Unknown, 105, 105);
+    put_last_slot(rt, b"P5", near, &memory);
+    put_slots(rt, near, &memory);
+    put_clocks(rt, b"P7", near, memory, 7609);
+    put_search_t(rt, b"P8", Distance::Unknown, 105, 111);
+    put_search_t(rt, b"P9", Distance::Range(LIMIT), 105, 111);
+    put_search_t(rt, b"P10", Distance::Unknown, 105, 105);
 }
 
 // ---- P11
 
-fn put_offset(east: f64, north: f64) {
+fn put_offset(rt: &(impl Print + Eprint), east: f64, north: f64) {
     if distance::far(Distance::Offset(Offset { east, north }), LIMIT) {
-        put(b" far");
+        put(rt, b" far");
     } else {
-        put(b" not far");
+        put(rt, b" not far");
     }
 }
 
-fn put_offsets() {
-    put(b"P11");
-    put_offset(90.0, 120.0);
-    put(b",");
-    put_offset(90.0, 119.0);
-    put(b"\n");
+fn put_offsets(rt: &(impl Print + Eprint)) {
+    put(rt, b"P11");
+    put_offset(rt, 90.0, 120.0);
+    put(rt, b",");
+    put_offset(rt, 90.0, 119.0);
+    put(rt, b"\n");
 }
 
 // ---- No. 4
 
 // T with bo 10.
-fn put_offset_t() {
+fn put_offset_t(rt: &(impl Print + Eprint)) {
     let mut memory = [0u8; record::SIZE];
     let s = reserve_t(&mut memory, 10, Distance::Unknown);
-    put(b"bo 10:");
-    let held = put_blocks(s, &memory, 100, 12121);
-    put(b", slots held:");
-    put_number(held as u64);
-    put(b"\n");
-    put_last_slot(b"bo 10, last slot:", s, &memory);
-    put(b"bo 10, octets:");
-    put_octets(&memory);
-    put(b"\n");
-    put_clocks(b"bo 10:", s, memory, 12119);
+    put(rt, b"bo 10:");
+    let held = put_blocks(rt, s, &memory, 100, 12121);
+    put(rt, b", slots held:");
+    put_number(rt, held as u64);
+    put(rt, b"\n");
+    put_last_slot(rt, b"bo 10, last slot:", s, &memory);
+    put(rt, b"bo 10, octets:");
+    put_octets(rt, &memory);
+    put(rt, b"\n");
+    put_clocks(rt, b"bo 10:", s, memory, 12119);
 }
 
 // What a reserve is answered in superframes of 60 slots, at slot 0, and where its blocks lie then.
-fn put_short(name: &[u8], bo: i32) {
+fn put_short(rt: &(impl Print + Eprint), name: &[u8], bo: i32) {
     let mut memory = [0u8; record::SIZE];
     let opened = State::open(&mut memory, 60).state;
     let a = opened.reserve(&mut memory, request_blocks(1, 2, 5, bo));
-    put(name);
+    put(rt, name);
     if a.refusal != 0 {
-        put_refused(a.refusal);
+        put_refused(rt, a.refusal);
     } else {
-        put_blocks(a.state, &memory, 0, 60);
-        put(b", last slot:");
-        put_number(series::last_slot(record::load(&memory, 0), 60));
+        put_blocks(rt, a.state, &memory, 0, 60);
+        put(rt, b", last slot:");
+        put_number(rt, series::last_slot(record::load(&memory, 0), 60));
     }
-    put(b"\n");
+    put(rt, b"\n");
 }
 
-fn put_offsets_of_blocks() {
-    put_offset_t();
-    put_short(b"M1 60, bo -62:", -62);
-    put_short(b"M1 60, bo -63:", -63);
+fn put_offsets_of_blocks(rt: &(impl Print + Eprint)) {
+    put_offset_t(rt);
+    put_short(rt, b"M1 60, bo -62:", -62);
+    put_short(rt, b"M1 60, bo -63:", -63);
 }
 
 // ---- No. 5
 
 // The map's octets of the slots 104 to 110 around T's first block, and P8 with one of them changed.
-fn put_map() {
+fn put_map(rt: &(impl Print + Eprint)) {
     let mut memory = [0u8; record::SIZE];
     let mut map = [0u8; 4500];
     let s = reserve_mapped(&mut memory, &mut map, Distance::Unknown);
-    put(b"map, slots 104 to 110:");
-    put_octets(&map[4..11]);
-    put(b"\n");
+    put(rt, b"map, slots 104 to 110:");
+    put_octets(rt, &map[4..11]);
+    put(rt, b"\n");
     map[5] = 1;
-    put_search(b"P8 with a wrong map:", s, &memory, &map, 105, 111);
+    put_search(rt, b"P8 with a wrong map:", s, &memory, &map, 105, 111);
 }
 
 // ---- slips that the marked cases let through, the parameters' defaults, and 000's example
 
 // P1 and P2, with bs 254 too, read the same with d bits 27-25 reversed.
-fn put_d_bits() {
-    put_group(b"d bit 25:", &with(P1, 4, 0x21));
-    put_group(b"d bit 27:", &with(P1, 4, 0x24));
+fn put_d_bits(rt: &(impl Print + Eprint)) {
+    put_group(rt, b"d bit 25:", &with(P1, 4, 0x21));
+    put_group(rt, b"d bit 27:", &with(P1, 4, 0x24));
 }
 
-fn put_default(number: u32) {
-    put_number(codec::default_figure(number).number as u64);
+fn put_default(rt: &(impl Print + Eprint), number: u32) {
+    put_number(rt, codec::default_figure(number).number as u64);
 }
 
 // The defaults of the parameters, which no call over C gives.
-fn put_defaults() {
-    put(b"defaults:");
-    put_default(1);
-    put_default(2);
-    put_default(3);
-    put(b"\n");
+fn put_defaults(rt: &(impl Print + Eprint)) {
+    put(rt, b"defaults:");
+    put_default(rt, 1);
+    put_default(rt, 2);
+    put_default(rt, 3);
+    put(rt, b"\n");
 }
 
 // What a near station asks for in one superframe.
@@ -335,32 +348,30 @@ fn is_held(s: State, memory: &[u8], slot: u32) -> bool {
 }
 
 // Where the runs of held slots start. How many slots are held.
-fn put_blocks(s: State, memory: &[u8], from: u32, to: u32) -> u32 {
-    put(b" blocks at");
+fn put_blocks(rt: &(impl Print + Eprint), s: State, memory: &[u8], from: u32, to: u32) -> u32 {
+    put(rt, b" blocks at");
     let mut was_held = false;
     let mut n = 0;
-    let mut slot = from;
-    while slot < to {
+    for slot in from..to {
         let held = is_held(s, memory, slot);
         if held & !was_held {
-            put_number(slot as u64);
+            put_number(rt, slot as u64);
         }
         if held {
             n += 1;
         }
         was_held = held;
-        slot += 1;
     }
     n
 }
 
 // Where M1 is no multiple of the rate R, j*M1/R differs from j*(M1/R).
-fn put_spacing(name: &[u8], m1: u32, rate: u32) {
+fn put_spacing(rt: &(impl Print + Eprint), name: &[u8], m1: u32, rate: u32) {
     let mut memory = [0u8; record::SIZE];
     let s = reserve_alone(&mut memory, m1, 0, request_blocks(rate, 2, 1, 0));
-    put(name);
-    put_blocks(s, &memory, 0, m1);
-    put(b"\n");
+    put(rt, name);
+    put_blocks(rt, s, &memory, 0, m1);
+    put(rt, b"\n");
 }
 
 // The table that holds T near, and T far of another station.
@@ -371,54 +382,54 @@ fn reserve_both(memory: &mut [u8]) -> State {
 }
 
 // One far record is not enough for a slot that a near one also holds.
-fn put_near_and_far() {
+fn put_near_and_far(rt: &(impl Print + Eprint)) {
     let mut memory = [0u8; 2 * record::SIZE];
     let both = reserve_both(&mut memory);
-    put(b"near and far on one slot:");
-    put_slot(both, &memory, 105);
+    put(rt, b"near and far on one slot:");
+    put_slot(rt, both, &memory, 105);
     let far = both.wipe(&mut memory, 1).state;
-    put(b", far alone:");
-    put_slot(far, &memory, 105);
-    put(b"\n");
+    put(rt, b", far alone:");
+    put_slot(rt, far, &memory, 105);
+    put(rt, b"\n");
 }
 
 // The numbers of the slots 104 to 110 around T's first block, by one call, in octets that held something else.
-fn put_window(name: &[u8], distance: Distance) {
+fn put_window(rt: &(impl Print + Eprint), name: &[u8], distance: Distance) {
     let mut memory = [0u8; record::SIZE];
     let s = reserve_t(&mut memory, 0, distance);
     let mut octets = [7u8; 7 + 32];
     slots::states(s, &memory, 104, &mut octets);
-    put(name);
-    put_octets(&octets[..7]);
+    put(rt, name);
+    put_octets(rt, &octets[..7]);
 }
 
-fn put_windows() {
-    put_window(b"slots 104 to 110, near:", Distance::Unknown);
-    put_window(b", far:", Distance::Range(LIMIT));
-    put(b"\n");
+fn put_windows(rt: &(impl Print + Eprint)) {
+    put_window(rt, b"slots 104 to 110, near:", Distance::Unknown);
+    put_window(rt, b", far:", Distance::Range(LIMIT));
+    put(rt, b"\n");
 }
 
-fn put_example() {
+fn put_example(rt: &(impl Print + Eprint)) {
     let mut memory = [0u8; record::SIZE];
     let s = reserve_alone(&mut memory, 4500, 90, request_blocks(3, 10, 10, 0));
-    put(b"000's three blocks of ten slots:");
-    let held = put_blocks(s, &memory, 90, 4590);
-    put(b", slots held:");
-    put_number(held as u64);
-    put(b"\n");
+    put(rt, b"000's three blocks of ten slots:");
+    let held = put_blocks(rt, s, &memory, 90, 4590);
+    put(rt, b", slots held:");
+    put_number(rt, held as u64);
+    put(rt, b"\n");
 }
 
-fn main() {
-    put_readings();
-    put_t();
-    put_offsets();
-    put_offsets_of_blocks();
-    put_map();
-    put_d_bits();
-    put_defaults();
-    put_spacing(b"M1 60, rate 7:", 60, 7);
-    put_spacing(b"M1 4500, rate 8:", 4500, 8);
-    put_near_and_far();
-    put_windows();
-    put_example();
+fn main(rt: HostRuntime) {
+    put_readings(&rt);
+    put_t(&rt);
+    put_offsets(&rt);
+    put_offsets_of_blocks(&rt);
+    put_map(&rt);
+    put_d_bits(&rt);
+    put_defaults(&rt);
+    put_spacing(&rt, b"M1 60, rate 7:", 60, 7);
+    put_spacing(&rt, b"M1 4500, rate 8:", 4500, 8);
+    put_near_and_far(&rt);
+    put_windows(&rt);
+    put_example(&rt);
 }

@@ -7,4 +7,4 @@ use Rattle.moment.specs.declared.Turn.TheVariants.{More, Ended, ReadFailed}
 abbrev pub kept_after : Turn → ℕ
 kept_after (More at) = at.held
 kept_after Ended = 0
-kept_after ReadFailed = 0
+kept_after (ReadFailed _) = 0

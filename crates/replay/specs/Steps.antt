@@ -13,5 +13,5 @@ RoomFor s t = entry_count s * line_room ≤ length t
 abbrev pub held_after : Turn → ℕ
 held_after (More at) = at.held
 held_after Ended = 0
-held_after ReadFailed = 0
-held_after WriteFailed = 0
+held_after (ReadFailed _) = 0
+held_after (WriteFailed _) = 0
