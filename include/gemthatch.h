@@ -454,7 +454,7 @@ GEMTHATCH_MUST_USE static inline uint32_t gemthatch_counted(gemthatch_tally *tal
 
 /*
  * The calls above with the state kept for you: each forms the next state from its answer, as proved in the library (its claims
- * `state-formed` and `entry-formed`). Memory and map stay yours, and must live as long as the channel is used.
+ * `state_formed` and `entry_formed`). Memory and map stay yours, and must live as long as the channel is used.
  */
 typedef struct gemthatch_channel {
     uint8_t *memory;
