@@ -16,11 +16,13 @@ use Rattle.codec.specs.declared.Block.{Block}
 use Rattle.codec.specs.NineOctets.{octet, destination_of, block_with, block_of, bad_code, field_tests, read_tests, reading}
 use Rattle.codec.proofs.Tests.{read_1, read_2, read_fields, field_3, field_4, field_5, field_6, field_0, octet_low, octet_inside}
 use Rattle.codec.proofs.read.Goals as goal
-use Rattle.codec.proofs.read.Goals.{Else-extended_id-ne2, Else-bad_code, Else-octets-lt2, Else-octets-lt2-2, After-shared_slice_known-6-1, Else-octets}
+use Rattle.codec.proofs.read.Goals.{After-bad_code, Else-bad_code, Else-octets-lt2, Else-octets-lt2-2, After-shared_slice_known-6-1, Else-octets}
 
 -- nine octets with the right extended ID are refused by their fields
-by_fields : (c : Else-extended_id-ne2) → first_of (field_tests (block_of c.args.octets.now)) ≡ first_of (read_tests c.args.octets.now)
-by_fields c = read_fields _ c.if-octets-ne9.false (sym c.extended_id.ensures ∙ c.if-extended_id-ne2.false)
+by_fields : (c : After-bad_code) → first_of (field_tests (block_of c.args.octets.now)) ≡ first_of (read_tests c.args.octets.now)
+by_fields c =
+    let two : c.extended_id.result ≡ 2 = omega arith in
+    read_fields _ c.if-octets-ne9.false (sym c.extended_id.ensures ∙ two)
 
 -- past its test, the code is good
 good_code : (c : Else-bad_code) → bad_code (block_of c.args.octets.now).br ≡ false
@@ -72,7 +74,7 @@ returns-then-bad_code c =
     let at = goal.at.returns-then-bad_code c in
     let bad = ap bad_code (sym c.rate_code-br.ensures) ∙ sym c.bad_code.ensures ∙ c.if-bad_code.true in
     c.refused_reading-then-bad_code.ensures
-    ∙ answer-refused _ _ (field_3 (block_of c.args.octets.now) bad ∙ by_fields at.Else-extended_id-ne2) (omega arith)
+    ∙ answer-refused _ _ (field_3 (block_of c.args.octets.now) bad ∙ by_fields at.After-bad_code) (omega arith)
 
 pub returns-then-octets-lt2 : goal.returns-then-octets-lt2
 returns-then-octets-lt2 c =
@@ -80,7 +82,7 @@ returns-then-octets-lt2 c =
     c.refused_reading-then-octets-lt2.ensures
     ∙ answer-refused _ _
     (field_4 (block_of c.args.octets.now) (good_code at.Else-bad_code) (octet_low _ c.if-octets-lt2.true)
-    ∙ by_fields at.Else-extended_id-ne2)
+    ∙ by_fields at.After-bad_code)
     (omega arith)
 
 pub returns-then-octets-lt2-2 : goal.returns-then-octets-lt2-2
@@ -89,7 +91,7 @@ returns-then-octets-lt2-2 c =
     c.refused_reading-then-octets-lt2-2.ensures
     ∙ answer-refused _ _
     (field_5 (block_of c.args.octets.now) (good_code at.Else-bad_code) (good_roff at.Else-octets-lt2) (octet_low _ c.if-octets-lt2-2.true)
-    ∙ by_fields at.Else-extended_id-ne2)
+    ∙ by_fields at.After-bad_code)
     (omega arith)
 
 pub returns-then-octets : goal.returns-then-octets
@@ -99,14 +101,14 @@ returns-then-octets c =
     c.refused_reading-then-octets.ensures
     ∙ answer-refused _ _
     (field_6 (block_of c.args.octets.now) (good_code at.Else-bad_code) (good_roff at.Else-octets-lt2) (good_bs at.Else-octets-lt2-2) bad
-    ∙ by_fields at.Else-extended_id-ne2)
+    ∙ by_fields at.After-bad_code)
     (omega arith)
 
 pub returns-then-octets-2 : goal.returns-then-octets-2
 returns-then-octets-2 c =
     let at = goal.at.returns-then-octets-2 c in
     let s = c.args.octets.now in
-    let none = none_called_for s (good_code at.Else-bad_code) (good_roff at.Else-octets-lt2) (good_bs at.Else-octets-lt2-2) (offset at.After-shared_slice_known-6-1 ∙ ne_eqb _ _ c.if-octets.false) (by_fields at.Else-extended_id-ne2) in
+    let none = none_called_for s (good_code at.Else-bad_code) (good_roff at.Else-octets-lt2) (good_bs at.Else-octets-lt2-2) (offset at.After-shared_slice_known-6-1 ∙ ne_eqb _ _ c.if-octets.false) (by_fields at.After-bad_code) in
     accept s none c.fields-not_rebroadcast.ensures
     (let e : NoRebroadcast (octet 1 s) (octet 2 s) (octet 3 s) ≡ destination_of s = rw (eq-eqb _ _ c.if-octets-2.true) in e)
 
@@ -114,6 +116,6 @@ pub returns : goal.returns
 returns c =
     let at = goal.at.returns c in
     let s = c.args.octets.now in
-    let none = none_called_for s (good_code at.Else-bad_code) (good_roff at.Else-octets-lt2) (good_bs at.Else-octets-lt2-2) (offset at.After-shared_slice_known-6-1 ∙ ne_eqb _ _ c.if-octets.false) (by_fields at.Else-extended_id-ne2) in
+    let none = none_called_for s (good_code at.Else-bad_code) (good_roff at.Else-octets-lt2) (good_bs at.Else-octets-lt2-2) (offset at.After-shared_slice_known-6-1 ∙ ne_eqb _ _ c.if-octets.false) (by_fields at.After-bad_code) in
     accept s none c.fields-addressed.ensures
     (let e : Address c.address.result ≡ destination_of s = rw (c.address.ensures, ne_eqb _ _ c.if-octets-2.false) in e)

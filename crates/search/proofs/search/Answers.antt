@@ -23,7 +23,9 @@ module _ (c : After-ask-n) where
 
   -- neither 11 nor 25
   is_fit : first_of (map_tests given) ≡ 0
-  is_fit = sym c.refusal-unfit.ensures ∙ c.if-unfit-ne0.false
+  is_fit =
+      let none : c.refusal-unfit.result ≡ 0 = omega arith in
+      sym c.refusal-unfit.ensures ∙ none
 
   -- the wiped list is as long as the one that came
   is_asked : c.ask-n.result ≡ asked given c.args.q places
