@@ -1,39 +1,16 @@
 -- Laws of the parameters' rows. Assumes nothing.
-use Prim.Native.Nat.{ℕ, zero, suc, ◌-◌, ◌<◌}
-use native.Mathlib.Omega.{arith}
-use mathlib.Core.Path.{◌≡◌, refl}
-use mathlib.Core.Bool.{true, false, true≢false, false≢true}
-use mathlib.Core.List.{[], ◌∷◌}
+use Prim.Native.Nat.{ℕ, zero, suc, ◌<◌}
+use mathlib.Core.Path.{◌≡◌, refl, sym, ◌∙◌, ap, subst}
+use mathlib.Core.Bool.{true, false, false≢true}
 use lib.Dec.{lit<}
-use lib.ListN.{get_or}
-use borrow.Author.Tests.{ne_eqb}
-use Rattle.octets.proofs.Refusals.{outside-false}
-use Rattle.codec.specs.Parameters.{Row, m1_row, m2inc_row, m2limit_row, by_row, unknown}
-use Rattle.codec.specs.Steps.{columns}
-
--- what holds of a known number: it has a row, from which all follows, and whose step is not 0
-pub record Known (number : ℕ) : Type 1 where
-  pub row : Row
-  pub follows : {A : Type 0} (f : Row → A) (none : A) → by_row number f none ≡ f row
-  pub stepped : 0 < row.step
-
-pub known : (number : ℕ) → unknown number ≡ false → Known number
-unfolding by_row
-known zero h = absurd (true≢false h)
-known (suc zero) h = record { row = m1_row; follows = λ f none. refl; stepped = lit< tt }
-known (suc (suc zero)) h = record { row = m2inc_row; follows = λ f none. refl; stepped = lit< tt }
-known (suc (suc (suc zero))) h = record { row = m2limit_row; follows = λ f none. refl; stepped = lit< tt }
-known (suc (suc (suc (suc n)))) h = absurd (omega (arith, (outside-false 1 3 (suc (suc (suc (suc n)))) h).1))
-
--- the code's rows, of which a number has the one before its place
-pub row_columns : (number : ℕ) → unknown number ≡ false
-    → get_or (columns m1_row ∷ columns m2inc_row ∷ columns m2limit_row ∷ []) (number - 1) [] ≡ by_row number columns []
-unfolding by_row
-row_columns zero h = absurd (true≢false h)
-row_columns (suc zero) h = refl
-row_columns (suc (suc zero)) h = refl
-row_columns (suc (suc (suc zero))) h = refl
-row_columns (suc (suc (suc (suc n)))) h = absurd (omega (arith, (outside-false 1 3 (suc (suc (suc (suc n)))) h).1))
+use borrow.Author.Tests.{ne_eqb, le-ltb, lt-ltb}
+use native.Mathlib.Omega.{arith}
+use Rattle.std.proofs.Common.{Ok, Err}
+use Rattle.std.specs.Result.{result_unwrap_or}
+use Rattle.refusal.specs.declared.Refusal.{Refusal}
+use Rattle.refusal.specs.declared.Refusal.TheVariants.{Parameter}
+use Rattle.codec.specs.declared.Row.{Row}
+use Rattle.codec.specs.Parameters.{by_row, unknown}
 
 -- from an unknown number none follows
 pub unknown-none : (number : ℕ) → unknown number ≡ true → {A : Type 0} (f : Row → A) (none : A) → by_row number f none ≡ none
@@ -43,3 +20,39 @@ unknown-none (suc zero) h f none = absurd (false≢true h)
 unknown-none (suc (suc zero)) h f none = absurd (false≢true h)
 unknown-none (suc (suc (suc zero))) h f none = absurd (false≢true h)
 unknown-none (suc (suc (suc (suc n)))) h f none = rw (ne_eqb (suc (suc (suc (suc n)))) 1 (omega arith), ne_eqb (suc (suc (suc (suc n)))) 2 (omega arith), ne_eqb (suc (suc (suc (suc n)))) 3 (omega arith))
+
+-- a number above 3 is unknown
+above_3 : (n : ℕ) → unknown (suc (suc (suc (suc n)))) ≡ true
+above_3 n = simp (le-ltb (suc (suc (suc (suc n)))) 1 (omega arith), lt-ltb 3 (suc (suc (suc (suc n)))) (omega arith))
+
+-- what holds of a number and its row: it is known, from the row all follows, and its step is not 0
+pub record HasRow (number : ℕ) (row : Row) : Type 1 where
+  pub known : unknown number ≡ false
+  pub follows : {A : Type 0} (f : Row → A) (none : A) → by_row number f none ≡ f row
+  pub stepped : 0 < row.step
+
+-- the row that a number is found to have
+pub found_row : (number : ℕ) (row : Row) → Ok row ≡ by_row number Ok (Err Parameter) → HasRow number row
+unfolding by_row
+found_row zero row e = absurd (cc)
+found_row (suc zero) row e =
+    let r = ap (λ x. result_unwrap_or x row) e in
+    subst (HasRow 1) (sym r) (record { known = refl; follows = λ f none. refl; stepped = lit< tt })
+found_row (suc (suc zero)) row e =
+    let r = ap (λ x. result_unwrap_or x row) e in
+    subst (HasRow 2) (sym r) (record { known = refl; follows = λ f none. refl; stepped = lit< tt })
+found_row (suc (suc (suc zero))) row e =
+    let r = ap (λ x. result_unwrap_or x row) e in
+    subst (HasRow 3) (sym r) (record { known = refl; follows = λ f none. refl; stepped = lit< tt })
+found_row (suc (suc (suc (suc n)))) row e =
+    let h = e ∙ unknown-none (suc (suc (suc (suc n)))) (above_3 n) Ok (Err Parameter) in absurd (cc)
+
+-- a number that is refused has none, and the refusal is 22
+pub lost_row : (number : ℕ) (x : Refusal) → Err x ≡ by_row number Ok (Err Parameter) → (unknown number ≡ true) × (x ≡ Parameter)
+unfolding by_row
+lost_row zero x e = (refl, cc)
+lost_row (suc zero) x e = absurd (cc)
+lost_row (suc (suc zero)) x e = absurd (cc)
+lost_row (suc (suc (suc zero))) x e = absurd (cc)
+lost_row (suc (suc (suc (suc n)))) x e =
+    let h = e ∙ unknown-none (suc (suc (suc (suc n)))) (above_3 n) Ok (Err Parameter) in (above_3 n, cc)

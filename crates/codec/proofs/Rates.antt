@@ -1,7 +1,7 @@
--- The refusal of a rate lookup by the tests that led to it. Assumes nothing.
+-- The refusal of a rate lookup by the tests that led to it, and what a result tells of it. Assumes nothing.
 use Prim.Native.Nat.{ℕ, zero, suc, ◌≤◌, ◌<◌, zero-le}
-use mathlib.Core.Path.{◌≡◌, ◌∙◌, ap}
-use mathlib.Core.Bool.{true, false, cond, not, and-eq-true_iff}
+use mathlib.Core.Path.{◌≡◌, refl, ◌∙◌, ap}
+use mathlib.Core.Bool.{true, false, not, and-eq-true_iff}
 use mathlib.Core.List.{List, [], ◌∷◌}
 use native.Mathlib.Omega.{arith}
 use borrow.Author.Tests.{eq-eqb, ne_eqb, eqb-true, eqb-false, le-leb, leb-true, not-false}
@@ -9,9 +9,12 @@ use lib.Dec.{leb, eqb}
 use lib.ListN.{length, get_or}
 use Rattle.octets.specs.Lists.{every}
 use Rattle.octets.specs.Refusals.{first_of}
-use Rattle.octets.proofs.Refusals.{answer-refused, answer_accepted, by_test, or_eq_false}
+use Rattle.std.proofs.Common.{Result}
+use Rattle.refusal.specs.declared.Refusal.{Refusal}
+use Rattle.refusal.specs.Refusals.{Tells}
+use Rattle.octets.proofs.Refusals.{Tells-answer, by_test, or_eq_false}
 use Rattle.codec.specs.NineOctets.{bad_code}
-use Rattle.codec.specs.Rates.{bad_list, rate_tests, rate_lookup}
+use Rattle.codec.specs.Rates.{Lookup, bad_list, rate_tests, refused_lookup, rate_lookup}
 
 -- ---- a list that is not bad
 
@@ -76,13 +79,17 @@ module _ (rates : List ℕ) (code : ℕ) where
     unfolding rate_tests
     rate_0 k z = simp (h, k, ne_eqb _ _ z)
 
-    -- up to 15 the entry alone tells what is found
-    pub rate_entry : code ≤ 15 → record { refusal = cond (eqb (get_or rates code 0) 0) 3 0; number = get_or rates code 0 } ≡ rate_lookup rates code
-    rate_entry l =
-        by_test (eqb (get_or rates code 0) 0)
-        (λ e.
-        let z = eqb-true (get_or rates code 0) 0 e in
-        simp z (answer-refused _ _ (by_test (bad_code code) rate_3_code (λ k. rate_3_entry k z)) (omega arith)))
-        (λ e.
-        let z = eqb-false (get_or rates code 0) 0 e in
-        rw e (answer_accepted _ _ (by_test (bad_code code) (λ k. absurd (z (bad_code_entry rates code h l k))) (λ k. rate_0 k z))))
+    -- up to 15 the entry alone tells: 3 where it is 0
+    pub rate_3 : code ≤ 15 → get_or rates code 0 ≡ 0 → 3 ≡ first_of (rate_tests rates code)
+    rate_3 l z = by_test (bad_code code) rate_3_code (λ k. rate_3_entry k z)
+
+    -- and none where it is not
+    pub rate_found : code ≤ 15 → (get_or rates code 0 ≡ 0 → ⊥) → 0 ≡ first_of (rate_tests rates code)
+    rate_found l z = by_test (bad_code code) (λ k. absurd (z (bad_code_entry rates code h l k))) (λ k. rate_0 k z)
+
+-- ---- what results tell
+
+-- what a result tells of the tests of a rate and the entry, it tells of the lookup
+pub tells_rate : (rates : List ℕ) (code : ℕ) (r : Result ℕ Refusal) → Tells r (first_of (rate_tests rates code)) (get_or rates code 0)
+    → Tells r (rate_lookup rates code).refusal (rate_lookup rates code).number
+tells_rate rates code r h = Tells-answer _ refused_lookup (λ (x : Lookup). x.refusal) (λ (x : Lookup). x.number) refl (λ n. refl) r (first_of (rate_tests rates code)) h

@@ -16,9 +16,7 @@ use Rattle.octets.proofs.Refusals.{answer_accepted, by_test}
 use Rattle.codec.specs.declared.Destination.{Destination}
 use Rattle.codec.specs.declared.Destination.TheVariants.{Address, NoRebroadcast}
 use Rattle.codec.specs.declared.Block.{Block}
-use Rattle.codec.specs.declared.Reading.{Reading}
-use Rattle.codec.specs.declared.Writing.{Writing}
-use Rattle.codec.specs.NineOctets.{octet, bits, no_rebroadcast, address_of, destination_of, block_with, block_of, octets1to3, bits3to1, octets_of, bad_address, misplaced, field_tests, reading, refused_reading, writing, refused_writing}
+use Rattle.codec.specs.NineOctets.{Reading, Writing, octet, bits, no_rebroadcast, address_of, destination_of, block_with, block_of, octets1to3, bits3to1, octets_of, bad_address, misplaced, field_tests, reading, refused_reading, writing, refused_writing}
 use Rattle.codec.specs.Claims.{WrittenIsRead, ReadIsWritten, cleared}
 use Rattle.codec.specs.Steps.{Fitting}
 use Rattle.codec.proofs.Tests.{reading_refusal, writing_refusal, write_passed, write_destination, read_fields, read_passed, destination_of-placed, block_fitting}

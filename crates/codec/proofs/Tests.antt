@@ -10,11 +10,12 @@ use lib.ListN.{length}
 use Rattle.octets.specs.Complement.{beyond127}
 use Rattle.octets.specs.Octets.{AreOctets}
 use Rattle.octets.specs.Refusals.{first_of, outside}
-use Rattle.octets.proofs.Refusals.{first_of_cons, first_of-zero, first_of-most, first_of_append, first_of-stop, answer_accepted, answer-says, by_test, or_eq_false, outside-false}
+use Rattle.std.proofs.Common.{Result}
+use Rattle.refusal.specs.declared.Refusal.{Refusal}
+use Rattle.refusal.specs.Refusals.{Tells}
+use Rattle.octets.proofs.Refusals.{first_of_cons, first_of-zero, first_of-most, first_of_append, first_of-stop, answer_accepted, answer-says, Tells-answer, by_test, or_eq_false, outside-false}
 use Rattle.codec.specs.declared.Block.{Block}
-use Rattle.codec.specs.declared.Reading.{Reading}
-use Rattle.codec.specs.declared.Writing.{Writing}
-use Rattle.codec.specs.NineOctets.{octet, bits, no_rebroadcast, address_of, destination_of, block_of, bad_code, bad_address, misplaced, field_tests, destination_tests, read_tests, write_tests, reading, refused_reading, writing, refused_writing}
+use Rattle.codec.specs.NineOctets.{Reading, Writing, octet, bits, no_rebroadcast, address_of, destination_of, block_of, bad_code, bad_address, misplaced, field_tests, destination_tests, read_tests, write_tests, reading, refused_reading, octets_of, writing, refused_writing}
 use Rattle.codec.specs.Steps.{Fitting}
 
 -- ---- the refusal by the tests that led to it
@@ -100,6 +101,18 @@ reading_refusal_most s = rw (reading_refusal s) (first_of-most 6 (read_tests s) 
 -- a writing says its refusal
 pub writing_refusal : (b : Block) → (writing b).refusal ≡ first_of (write_tests b)
 writing_refusal b = answer-says _ refused_writing (λ (x : Writing). x.refusal) refl (λ n. refl) (first_of (write_tests b))
+
+-- ---- what results tell
+
+-- what a result tells of the tests of reading and the fields, it tells of the reading
+pub tells_reading : (s : List ℕ) (r : Result Block Refusal) → Tells r (first_of (read_tests s)) (block_of s)
+    → Tells r (reading s).refusal (reading s).block
+tells_reading s r h = Tells-answer _ refused_reading (λ (x : Reading). x.refusal) (λ (x : Reading). x.block) refl (λ n. refl) r (first_of (read_tests s)) h
+
+-- and so of a writing
+pub tells_writing : (b : Block) (r : Result (List ℕ) Refusal) → Tells r (first_of (write_tests b)) (octets_of b)
+    → Tells r (writing b).refusal (writing b).octets
+tells_writing b r h = Tells-answer _ refused_writing (λ (x : Writing). x.refusal) (λ (x : Writing). x.octets) refl (λ n. refl) r (first_of (write_tests b)) h
 
 -- ---- what is not refused
 

@@ -5,8 +5,6 @@ use Rattle.octets.specs.Refusals.{first_of, answer, outside}
 use Rattle.codec.specs.declared.Destination.{Destination}
 use Rattle.codec.specs.declared.Destination.TheVariants.{Address, NoRebroadcast}
 use Rattle.codec.specs.declared.Block.{Block}
-use Rattle.codec.specs.declared.Reading.{Reading}
-use Rattle.codec.specs.declared.Writing.{Writing}
 
 -- ---- the layout
 
@@ -120,6 +118,16 @@ write_tests b =
     ++ destination_tests b
 
 -- ---- the answers
+
+-- what reading gives: the refusal, 0 for none, and the fields
+pub record Reading : Type 0 where
+  pub refusal : ℕ
+  pub block : Block
+
+-- what writing gives: the refusal, 0 for none, and the nine octets
+pub record Writing : Type 0 where
+  pub refusal : ℕ
+  pub octets : List ℕ
 
 -- a refused reading gives address 0, and all other fields 0
 abbrev pub refused_reading : ℕ → Reading

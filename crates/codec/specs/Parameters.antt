@@ -1,15 +1,8 @@
 -- The parameters (004, Table 1-3): their rows, and which figures fit.
 use Rattle.std.specs.Prelude.{ℕ, ◌-◌, ◌%◌, Bool, false, cond, not, ◌&&◌, List, [], ◌∷◌, eqb}
 use Rattle.octets.specs.Refusals.{outside, within}
-use Rattle.codec.specs.declared.Lookup.{Lookup}
-use Rattle.codec.specs.Rates.{refused_lookup}
-
--- a row of the table
-pub record Row : Type 0 where
-  pub minimum : ℕ
-  pub maximum : ℕ
-  pub default : ℕ
-  pub step : ℕ
+use Rattle.codec.specs.declared.Row.{Row}
+use Rattle.codec.specs.Rates.{Lookup, refused_lookup}
 
 -- 1 M1, slots in a superframe
 abbrev pub m1_row : Row

@@ -2,7 +2,6 @@
 use Rattle.std.specs.Prelude.{ℕ, Bool, not, ◌||◌, List, [], ◌∷◌, leb, eqb, length, get_or}
 use Rattle.octets.specs.Lists.{every}
 use Rattle.octets.specs.Refusals.{first_of, answer}
-use Rattle.codec.specs.declared.Lookup.{Lookup}
 use Rattle.codec.specs.NineOctets.{bad_code}
 
 -- a length other than sixteen, an entry above 60, or one not 0 at 7, 14 or 15
@@ -17,6 +16,11 @@ bad_list rates =
 -- what a lookup is refused for: 7, 3
 unfoldable pub rate_tests : List ℕ → ℕ → List (ℕ × Bool)
 rate_tests rates code = (7, bad_list rates) ∷ (3, bad_code code || eqb (get_or rates code 0) 0) ∷ []
+
+-- what a lookup gives: the refusal, 0 for none, and the number found
+pub record Lookup : Type 0 where
+  pub refusal : ℕ
+  pub number : ℕ
 
 -- a refused lookup gives 0
 abbrev pub refused_lookup : ℕ → Lookup

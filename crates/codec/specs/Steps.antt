@@ -1,9 +1,8 @@
 -- What private functions ask and promise: the code's own steps. Nothing that a caller of the crate has to believe.
-use Rattle.std.specs.Prelude.{ℕ, ◌≤◌, ◌≡◌, false, List, [], ◌∷◌}
+use Rattle.std.specs.Prelude.{◌≤◌, ◌≡◌, false}
 use Rattle.octets.specs.Complement.{beyond127}
 use Rattle.codec.specs.declared.Block.{Block}
 use Rattle.codec.specs.NineOctets.{bad_address}
-use Rattle.codec.specs.Parameters.{Row}
 
 -- each field fits the bits that it is written to
 pub record Fitting (b : Block) : Type 0 where
@@ -14,7 +13,3 @@ pub record Fitting (b : Block) : Type 0 where
   pub bs_low : b.bs ≤ 255
   pub bo_in : beyond127 b.bo ≡ false
   pub bt_low : b.bt ≤ 3
-
--- a row as the code has it: its four numbers
-abbrev pub columns : Row → List ℕ
-columns row = row.minimum ∷ row.maximum ∷ row.default ∷ row.step ∷ []

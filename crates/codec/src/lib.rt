@@ -1,14 +1,17 @@
 // The nine octets of a superframe block reservation, read and written; the rate lookup; the parameter check.
 #![tactic(auto)]
 
-ghost use Rattle.std.specs.Prelude.{◌<◌, ◌≡◌, false, cond, [], ◌∷◌, leb, eqb};
+ghost use Rattle.std.specs.Prelude.{◌<◌, ◌≡◌, [], ◌∷◌, leb, Ok, Err};
+ghost use Rattle.refusal.specs.Refusals.{Tells};
 ghost use Rattle.octets.specs.Lists.{every};
 ghost use Rattle.octets.specs.Refusals.{first_of};
-ghost use Rattle.codec.specs.NineOctets.{bits, address_of, block_with, bad_code, bad_address, misplaced, field_tests, destination_tests, write_tests, octets1to3, bits3to1, octets_of, refused_reading, reading, writing};
-ghost use Rattle.codec.specs.Rates.{bad_list, rate_lookup, refused_lookup};
-ghost use Rattle.codec.specs.Parameters.{unknown, by_row, parameter_tests, default_lookup};
+ghost use Rattle.codec.specs.NineOctets.{bits, address_of, block_with, bad_code, bad_address, misplaced, field_tests, destination_tests, write_tests, octets1to3, bits3to1, octets_of, reading, writing};
+ghost use Rattle.codec.specs.Rates.{bad_list, rate_lookup};
+ghost use Rattle.codec.specs.Parameters.{by_row, parameter_tests, default_lookup};
 ghost use Rattle.codec.specs.Claims.{Claims};
-ghost use Rattle.codec.specs.Steps.{Fitting, columns};
+ghost use Rattle.codec.specs.Steps.{Fitting};
+
+use refusal::Refusal;
 
 // ---- the nine octets
 
@@ -32,52 +35,33 @@ pub struct Block {
     pub bt: u32,
 }
 
-// What reading gives: the refusal, 0 for none, and the fields, address 0 and all others 0 where it is refused.
-#[derive(Clone, Copy)]
-pub struct Reading {
-    pub refusal: u32,
-    pub block: Block,
-}
-
-// What writing gives: the refusal, 0 for none, and the nine octets, all 0 where it is refused. Laid out as in C: it crosses to a C host as
-// it is.
-#[repr(C)]
-#[derive(Clone, Copy)]
-pub struct Writing {
-    pub refusal: u32,
-    pub octets: [u8; 9],
-}
-
 fn bad_code(code: u32) -> bool
     ensures { result ≡ bad_code code }
 {
     (code == 7) | (14 <= code)
 }
 
-// The refusal that br, roff, bs and bo call for, 0 for none.
-fn judge_fields(b: Block) -> u32
-    ensures { result ≡ first_of (field_tests b) }
+// What br, roff, bs and bo are refused for.
+fn judge_fields(b: Block) -> Result<(), Refusal>
+    ensures { Tells result (first_of (field_tests b)) tt }
 {
-    let br = b.br;
-    let roff = b.roff;
-    let bs = b.bs;
-    let bo = b.bo;
-    if bad_code(br) {
-        return 3;
+    let Block { roff, bs, bo, .. } = b;
+    if bad_code(b.br) {
+        return Err(Refusal::Code);
     }
     if (roff < 2) | (255 < roff) {
-        return 4;
+        return Err(Refusal::Roff);
     }
     if (bs < 2) | (255 < bs) {
-        return 5;
+        return Err(Refusal::Bs);
     }
     if (bo < -127) | (127 < bo) {
-        return 6;
+        return Err(Refusal::Bo);
     }
-    0
+    Ok(())
 }
 
-// d bits 27-25, which octet 4 holds in its bits 3-1.
+// d bits 27-25, which octet 4 holds in its bits 3-1. Octets widen by `as` in this crate: by `u32::from` the fields' equations don't compute.
 fn high_bits(octet4: u8) -> u32
     ensures { result ≡ bits 3 1 octet4 }
 {
@@ -102,8 +86,7 @@ fn extended_id(octet9: u8) -> u8
 fn address(o1: u8, o2: u8, o3: u8, o4: u8) -> u32
     ensures { result ≡ address_of o1 o2 o3 o4 }
 {
-    let high = high_bits(o4);
-    high * 16777216 + (o1 as u32) * 65536 + (o2 as u32) * 256 + (o3 as u32)
+    high_bits(o4) * 16777216 + (o1 as u32) * 65536 + (o2 as u32) * 256 + (o3 as u32)
 }
 
 // The fields beside a destination, out of octets 4 to 9 one by one.
@@ -121,66 +104,42 @@ fn fields(d: Destination, o4: u8, o5: u8, o6: u8, o7: u8, o8: u8, o9: u8) -> Blo
     }
 }
 
-// A reading that is refused: its number, address 0, and all other fields 0.
-pub fn refused_reading(n: u32) -> Reading
-    ensures { result ≡ refused_reading n }
-{
-    Reading {
-        refusal: n,
-        block: Block {
-            d: Destination::Address(0),
-            blg: 0,
-            roff: 0,
-            br: 0,
-            bs: 0,
-            bo: 0,
-            bt: 0,
-        },
-    }
-}
-
 // Reads a reservation. Refused, in this order: 1, 2, 3, 4, 5, 6. The octets are judged before the fields are built, and no octet says a
 // number too high for its field. Each kind of destination leaves by an exit of its own, so that it never has to be packed.
-pub fn read(octets: &[u8]) -> Reading
-    ensures { result ≡ reading octets.now }
+pub fn read(octets: &[u8]) -> Result<Block, Refusal>
+    ensures { Tells result (reading octets.now).refusal (reading octets.now).block }
 {
     if octets.len() != 9 {
-        return refused_reading(1);
+        return Err(Refusal::Size);
     }
     if extended_id(octets[8]) != 2 {
-        return refused_reading(2);
+        return Err(Refusal::ExtendedId);
     }
     let br = rate_code(octets[5]);
     if bad_code(br) {
-        return refused_reading(3);
+        return Err(Refusal::Code);
     }
     if octets[4] < 2 {
-        return refused_reading(4);
+        return Err(Refusal::Roff);
     }
     if octets[6] < 2 {
-        return refused_reading(5);
+        return Err(Refusal::Bs);
     }
     if octets[7] == 128 {
-        return refused_reading(6);
+        return Err(Refusal::Bo);
     }
     if octets[4] == octets[6] {
         let d = Destination::NoRebroadcast(octets[0], octets[1], octets[2]);
         let not_rebroadcast = fields(
             d, octets[3], octets[4], octets[5], octets[6], octets[7], octets[8],
         );
-        return Reading {
-            refusal: 0,
-            block: not_rebroadcast,
-        };
+        return Ok(not_rebroadcast);
     }
     let d = Destination::Address(address(octets[0], octets[1], octets[2], octets[3]));
     let addressed = fields(
         d, octets[3], octets[4], octets[5], octets[6], octets[7], octets[8],
     );
-    Reading {
-        refusal: 0,
-        block: addressed,
-    }
+    Ok(addressed)
 }
 
 fn bad_address(d: Destination) -> bool
@@ -202,33 +161,29 @@ fn misplaced(d: Destination, roff: u32, bs: u32) -> bool
     }
 }
 
-// The refusal that the destination calls for beside roff and bs, 0 for none.
-fn judge_destination(b: Block) -> u32
-    ensures { result ≡ first_of (destination_tests b) }
+// What the destination is refused for beside roff and bs.
+fn judge_destination(b: Block) -> Result<(), Refusal>
+    ensures { Tells result (first_of (destination_tests b)) tt }
 {
-    let d = b.d;
-    if misplaced(d, b.roff, b.bs) { 34 } else { 0 }
+    if misplaced(b.d, b.roff, b.bs) {
+        return Err(Refusal::Destination);
+    }
+    Ok(())
 }
 
-// The refusal that a block calls for, 0 for none.
-fn judge_block(b: Block) -> u32
-    ensures { result ≡ first_of (write_tests b) }
+// What a block is refused for.
+fn judge_block(b: Block) -> Result<(), Refusal>
+    ensures { Tells result (first_of (write_tests b)) tt }
 {
-    let d = b.d;
-    let blg = b.blg;
-    let bt = b.bt;
-    if bad_address(d) {
-        return 8;
+    let Block { blg, bt, .. } = b;
+    if bad_address(b.d) {
+        return Err(Refusal::Address);
     }
     if (31 < blg) | (3 < bt) {
-        return 9;
+        return Err(Refusal::Field);
     }
-    let by_fields = judge_fields(b);
-    let by_destination = judge_destination(b);
-    if by_fields != 0 {
-        return by_fields;
-    }
-    by_destination
+    judge_fields(b)?;
+    judge_destination(b)
 }
 
 // The octets that hold a block whose fields fit, by what its destination puts into octets 1 to 3 and into bits 3-1 of octet 4.
@@ -254,8 +209,7 @@ fn store(b: Block) -> [u8; 9]
     requires { Fitting b }
     ensures { result ≡ octets_of b }
 {
-    let d = b.d;
-    match d {
+    match b.d {
         Destination::Address(a) => store_after(
             (a / 65536 % 256) as u8,
             (a / 256 % 256) as u8,
@@ -268,50 +222,22 @@ fn store(b: Block) -> [u8; 9]
 }
 
 // Writes a reservation. Refused, in this order: 8, 9, 3, 4, 5, 6, 34.
-pub fn write(b: Block) -> Writing
-    ensures { result ≡ writing b }
+pub fn write(b: Block) -> Result<[u8; 9], Refusal>
+    ensures { Tells result (writing b).refusal (writing b).octets }
 {
-    let n = judge_block(b);
-    if n != 0 {
-        return Writing {
-            refusal: n,
-            octets: [0; 9],
-        };
-    }
-    let o = store(b);
-    Writing {
-        refusal: 0,
-        octets: o,
-    }
+    judge_block(b)?;
+    Ok(store(b))
 }
 
 // ---- the rates
-
-// What a lookup gives: the refusal, 0 for none, and the number found, 0 where it is refused.
-#[derive(Clone, Copy)]
-pub struct Lookup {
-    pub refusal: u32,
-    pub number: u32,
-}
-
-fn refused_lookup(n: u32) -> Lookup
-    ensures { result ≡ refused_lookup n }
-{
-    Lookup {
-        refusal: n,
-        number: 0,
-    }
-}
 
 // Whether no entry is above 60.
 fn none_above_60(rates: &[u8]) -> bool
     ensures { result ≡ every (λ x. leb x 60) rates.now }
 {
     let mut so_far = true;
-    let mut i = 0;
-    while i < rates.len() {
-        so_far = so_far & (rates[i] <= 60);
-        i += 1;
+    for rate in rates {
+        so_far &= *rate <= 60;
     }
     so_far
 }
@@ -326,77 +252,88 @@ fn bad_list(rates: &[u8]) -> bool
     !low | (rates[7] != 0) | (rates[14] != 0) | (rates[15] != 0)
 }
 
-// The refusal of a code by its entry, which is 0 where the code has no rate.
-fn judge_entry(entry: u8) -> u32
-    ensures { result ≡ cond (eqb entry 0) 3 0 }
-{
-    if entry == 0 { 3 } else { 0 }
-}
-
 // The rate that a code stands for in a list of sixteen. Refused, in this order: 7, 3. A good list has 0 at 7, 14 and 15, so that the
 // entry tells of every code up to 15 whether it has a rate.
-pub fn rate(rates: &[u8], code: u32) -> Lookup
-    ensures { result ≡ rate_lookup rates.now code }
+pub fn rate(rates: &[u8], code: u32) -> Result<u32, Refusal>
+    ensures { Tells result (rate_lookup rates.now code).refusal (rate_lookup rates.now code).number }
 {
     if bad_list(rates) {
-        return refused_lookup(7);
+        return Err(Refusal::RateList);
     }
     if 15 < code {
-        return refused_lookup(3);
+        return Err(Refusal::Code);
     }
     let entry = rates[code as usize];
-    let n = judge_entry(entry);
-    Lookup {
-        refusal: n,
-        number: entry as u32,
+    if entry == 0 {
+        return Err(Refusal::Code);
     }
+    Ok(entry as u32)
 }
 
 // ---- the parameters
 
-// Minimum, maximum, default and step of 1 M1, 2 M2inc, 3 M2limit (004, Table 1-3).
-const PARAMETERS: [[u32; 4]; 3] = [[60, 15360, 4500, 60], [1, 256, 2, 1], [1, 65536, 160, 1]];
-
-// The row of a parameter.
-fn row(number: u32) -> [u32; 4]
-    requires { unknown number ≡ false }
-    ensures { result ≡ by_row number columns [] }
-{
-    PARAMETERS[(number - 1) as usize]
+// A row of the parameters' table.
+#[derive(Clone, Copy)]
+struct Row {
+    minimum: u32,
+    maximum: u32,
+    default: u32,
+    step: u32,
 }
 
-// The refusal of a figure for a parameter, 0 where it fits. Refused, in this order: 22, 10.
-pub fn parameter(number: u32, figure: u32) -> u32
-    ensures { result ≡ first_of (parameter_tests number figure) }
+// 1 M1, 2 M2inc, 3 M2limit (004, Table 1-3).
+const M1: Row = Row {
+    minimum: 60,
+    maximum: 15360,
+    default: 4500,
+    step: 60,
+};
+
+const M2INC: Row = Row {
+    minimum: 1,
+    maximum: 256,
+    default: 2,
+    step: 1,
+};
+
+const M2LIMIT: Row = Row {
+    minimum: 1,
+    maximum: 65536,
+    default: 160,
+    step: 1,
+};
+
+// The row of a parameter's number. Refused: 22.
+fn row_of(number: u32) -> Result<Row, Refusal>
+    ensures { result ≡ by_row number Ok (Err Refusal.Parameter) }
 {
-    if (number < 1) | (3 < number) {
-        return 22;
+    match number {
+        1 => Ok(M1),
+        2 => Ok(M2INC),
+        3 => Ok(M2LIMIT),
+        _ => Err(Refusal::Parameter),
     }
-    let r = row(number);
-    let low = r[0];
-    let high = r[1];
-    let step = r[3];
-    if (figure < low) | (high < figure) {
-        return 10;
+}
+
+// Whether a figure fits its parameter. Refused, in this order: 22, 10.
+pub fn parameter(number: u32, figure: u32) -> Result<(), Refusal>
+    ensures { Tells result (first_of (parameter_tests number figure)) tt }
+{
+    let row = row_of(number)?;
+    if (figure < row.minimum) | (row.maximum < figure) {
+        return Err(Refusal::Figure);
     }
-    if (figure - low) % step != 0 {
-        return 10;
+    if (figure - row.minimum) % row.step != 0 {
+        return Err(Refusal::Figure);
     }
-    0
+    Ok(())
 }
 
 // The default of a parameter. Refused: 22.
-pub fn default_figure(number: u32) -> Lookup
-    ensures { result ≡ default_lookup number }
+pub fn default_figure(number: u32) -> Result<u32, Refusal>
+    ensures { Tells result (default_lookup number).refusal (default_lookup number).number }
 {
-    if (number < 1) | (3 < number) {
-        return refused_lookup(22);
-    }
-    let r = row(number);
-    Lookup {
-        refusal: 0,
-        number: r[2],
-    }
+    Ok(row_of(number)?.default)
 }
 
 // What this crate claims over its promises.

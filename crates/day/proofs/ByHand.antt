@@ -2,13 +2,14 @@
 use Prim.Native.Nat.{ℕ}
 use mathlib.Core.Path.{◌≡◌, refl, ap, ◌∙◌}
 use mathlib.Core.List.{List, [], ◌∷◌}
+use Rattle.std.proofs.Common.{Option, Some, None}
 use Rattle.sound.specs.Sound.{Channel}
 use Rattle.table.specs.Table.{Said, Call}
 use Rattle.table.specs.Memory.{leaves, says}
 use Rattle.trace.specs.Machine.{runs, transcript}
 use Rattle.trace.specs.Sequences.{on_octets}
 use Rattle.daylog.specs.declared.LoggedCall.{LoggedCall}
-use Rattle.daylog.specs.declared.LoggedCall.TheVariants.{Clock, Reserve, SetDistance, Wipe, NoCall}
+use Rattle.daylog.specs.declared.LoggedCall.TheVariants.{Clock, Reserve, SetDistance, Wipe}
 use Rattle.daylog.specs.Entries.{call_in, by_call, entry_says, entry_leaves}
 use Rattle.day.specs.Day.{entries, on_log}
 use Rattle.day.specs.Claims.{calls_in, calls_told, ByHand, NoCallSays}
@@ -16,23 +17,23 @@ use Rattle.day.specs.Claims.{calls_in, calls_told, ByHand, NoCallSays}
 -- ---- by what a log record asks for
 
 -- the call is made, or nothing is
-by_call-runs : (u : LoggedCall) (m : Channel) (cs : List Call)
+by_call-runs : (u : Option LoggedCall) (m : Channel) (cs : List Call)
     → runs on_octets (by_call u (leaves m) m) cs ≡ runs on_octets m (by_call u (λ c. c ∷ cs) cs)
-by_call-runs (Clock slot) m cs = refl
-by_call-runs (Reserve q) m cs = refl
-by_call-runs (SetDistance s d limit) m cs = refl
-by_call-runs (Wipe s) m cs = refl
-by_call-runs NoCall m cs = refl
+by_call-runs (Some (Clock slot)) m cs = refl
+by_call-runs (Some (Reserve q)) m cs = refl
+by_call-runs (Some (SetDistance s d limit)) m cs = refl
+by_call-runs (Some (Wipe s)) m cs = refl
+by_call-runs None m cs = refl
 
 -- and so is its answer told, or nothing is
-by_call-told : (u : LoggedCall) (m : Channel) (w : Said) (cs : List Call)
+by_call-told : (u : Option LoggedCall) (m : Channel) (w : Said) (cs : List Call)
     → (let rest = transcript on_octets (by_call u (leaves m) m) cs in by_call u (λ c. (c, by_call u (says m) w) ∷ rest) rest)
     ≡ transcript on_octets m (by_call u (λ c. c ∷ cs) cs)
-by_call-told (Clock slot) m w cs = refl
-by_call-told (Reserve q) m w cs = refl
-by_call-told (SetDistance s d limit) m w cs = refl
-by_call-told (Wipe s) m w cs = refl
-by_call-told NoCall m w cs = refl
+by_call-told (Some (Clock slot)) m w cs = refl
+by_call-told (Some (Reserve q)) m w cs = refl
+by_call-told (Some (SetDistance s d limit)) m w cs = refl
+by_call-told (Some (Wipe s)) m w cs = refl
+by_call-told None m w cs = refl
 
 -- ---- the same calls made by hand
 

@@ -1,5 +1,5 @@
 -- Laws of the cutting of a log into log records. Assumes nothing.
-use Prim.Native.Nat.{ℕ, zero, suc, ◌+◌, ◌*◌, ◌%◌, ◌≤◌, ◌<◌}
+use Prim.Native.Nat.{ℕ, zero, suc, ◌+◌, ◌*◌, ◌/◌, ◌%◌, ◌≤◌, ◌<◌, min}
 use native.Mathlib.Nat.{add-zero, zero-add}
 use native.Mathlib.Numerals.{add-one}
 use native.Mathlib.Omega.{arith}
@@ -49,6 +49,10 @@ module _ {A : Type 0} (f : ℕ → A) where
   every-map-from p s (suc n) h = rw (h s (omega arith) (omega arith), every-map-from p (s + 1) n (λ x l k. h x (omega arith) (omega arith)))
 
 -- ---- the log records of a log
+
+-- the code's count is the definition's
+pub count : (l : ℕ) → l / 24 + min 1 (l % 24) ≡ (l + 23) / 24
+count l = omega arith
 
 -- as many as are counted
 pub length-entries : (s : List ℕ) → len (entries s) ≡ entry_count s

@@ -5,4 +5,5 @@ pub mod Pieces
 pub mod Tenant
 pub mod Replays
 pub mod Moments
+pub mod Taken
 pub mod Programs

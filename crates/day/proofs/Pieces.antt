@@ -6,9 +6,9 @@ use mathlib.Core.List.{List, [], ◌∷◌, ◌++◌}
 use lib.ListN.{length as len, get_or, take}
 use lib.Seq.{length-take-le, get_or-take, get_or_at}
 use borrow.Author.Tests.{ne_eqb}
+use Rattle.std.proofs.Common.{None}
 use Rattle.sound.specs.Sound.{Channel}
 use Rattle.trace.specs.Machine.{transcript}
-use Rattle.daylog.specs.declared.LoggedCall.TheVariants.{NoCall}
 use Rattle.daylog.specs.Entries.{call_in, entry_says, entry_leaves}
 use Rattle.day.specs.Day.{entry_at, entry_count, entries, on_log, replayed, log_lines}
 use Rattle.day.specs.Steps.{table_after, lines_to, answer_line}
@@ -63,7 +63,7 @@ line_for_each place m s = (
 )
 
 -- an incomplete log record asks for no call
-call_in_incomplete : (o : List ℕ) → len o < 24 → call_in o ≡ NoCall
+call_in_incomplete : (o : List ℕ) → len o < 24 → call_in o ≡ None
 unfolding call_in
 call_in_incomplete o h = rw (ne_eqb (len o) 24 (omega arith))
 

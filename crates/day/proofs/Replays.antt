@@ -1,59 +1,79 @@
 -- A replay log record by log record: what one gives, and what the first k of a log give. Assumes nothing.
-use Prim.Native.Nat.{ℕ, ◌+◌, ◌-◌, ◌*◌, ◌/◌, ◌^◌, ◌≤◌, ◌<◌}
+use Prim.Native.Nat.{ℕ, ◌+◌, ◌-◌, ◌*◌, ◌/◌, ◌^◌, ◌≤◌, ◌<◌, min}
 use mathlib.Core.Path.{◌≡◌, refl, sym, ap, ◌∙◌}
 use mathlib.Core.Bool.{Bool, true, false, ◌&&◌, and-eq-true_iff}
-use mathlib.Core.List.{List, []}
+use mathlib.Core.List.{List, [], ◌++◌}
 use native.Mathlib.Nat.{add-zero}
 use native.Mathlib.Omega.{arith}
 use lib.Dec.{leb, ltb}
-use lib.ListN.{length as len, take}
-use lib.Seq.{take-append_seam}
+use lib.ListN.{length as len, take, drop, length-drop}
+use lib.Seq.{take-append_seam, drop-append_seam}
+use Rattle.std.proofs.lemmas.List.{take_min, drop_min, drop-drop}
+use Rattle.std.proofs.Common.{Result, Ok, Err}
+use Rattle.refusal.specs.declared.Refusal.{Refusal}
 use Rattle.octets.specs.Octets.{zero_from, holds_only}
 use borrow.Author.Tests.{le-leb, lt-ltb, leb-true, ltb-true}
 use Rattle.octets.proofs.Refusals.{by_test}
 use Rattle.sound.specs.Sound.{Channel}
-use Rattle.table.specs.declared.Answer.{Answer}
-use Rattle.table.specs.Memory.{channel, state_of}
-use Rattle.daylog.specs.Entries.{entry_leaves, entry_returned}
-use Rattle.lines.specs.declared.Line.{Line}
-use Rattle.lines.specs.Day.{said_line, line_room, line_of}
+use Rattle.table.specs.declared.State.{State}
+use Rattle.table.specs.Memory.{channel, state_of, call_said}
+use Rattle.daylog.specs.Entries.{entry_says, entry_leaves}
+use Rattle.lines.specs.Day.{told_line, line_room}
 use Rattle.lines.specs.Steps.{Wrote}
 use Rattle.lines.proofs.Wrote.{and_then, start_wiped}
 use Rattle.day.specs.declared.Replayed.{Replayed}
 use Rattle.day.specs.Day.{entry_at, entry_count, entries, replayed, log_lines, joined, log_in, replay_returned}
-use Rattle.day.specs.Steps.{Stepped, Went}
+use Rattle.day.specs.Steps.{answer_line, Stepped, Went}
 use Rattle.day.proofs.Sequences.{joined_next}
 use Rattle.day.proofs.Pieces.{table_after_all, table_after_next, lines_to_all, lines_to_next}
 
--- ---- a line by value
-
--- what is put of it is its text
-pub line_wrote : (line : Line) (x : List ℕ) {t u : List ℕ} {at n : ℕ} → line ≡ line_of x → line.length ≤ line_room
-    → Wrote t at (take line.length line.octets) n u → Wrote t at x n u × (n ≤ at + line_room)
-line_wrote line x is h w =
-    let e : take line.length line.octets ≡ x = rw (is, take-append_seam) in
-    let v = rw e at w in
-    (v, omega (arith, v.place, ap (λ l. l.length) is))
-
 -- ---- one log record
 
+-- a result's line is that of what it says
+told_line-said : (place : ℕ) (r : Result ℕ Refusal) → told_line place r ≡ answer_line place (call_said r)
+told_line-said place (Ok n) = refl
+told_line-said place (Err e) = refl
+
 -- what the step gives, with its line put
-pub stepped : {m : Channel} {o : List ℕ} {place at n : ℕ} {t u x : List ℕ} {a : Answer} {line : Line}
-    → a ≡ entry_returned m o → x ≡ (entry_leaves m o).memory → line ≡ line_of (said_line place a.refusal a.number) → line.length ≤ line_room
-    → Wrote t at (take line.length line.octets) n u
-    → Stepped m o place at t (record { state = a.state; place = place + 1; length = n }) x u
-unfolding entry_returned
-stepped {place = place} {a = a} {line} e f g h w =
-    let v = line_wrote line (said_line place a.refusal a.number) g h w in
-    record { left = rw (e, f); next = refl; wrote = rw e at v.0; short = v.1 }
+pub stepped : (said : Result ℕ Refusal) {m : Channel} {z : State} {o x t u line : List ℕ} {r : Replayed} {end : ℕ}
+    → call_said said ≡ entry_says m o → z ≡ state_of (entry_leaves m o) → x ≡ (entry_leaves m o).memory
+    → line ≡ told_line r.place said → len line ≤ line_room → Wrote t r.length line end u
+    → Stepped m r t o (channel z x) (record { place = r.place + 1; length = end }) u
+stepped said {r = r} e f g l h w =
+    record {
+      left = rw (f, g);
+      next = refl;
+      wrote = rw (l ∙ told_line-said r.place said ∙ ap (answer_line r.place) e) at w;
+      short = omega (arith, w.place, h);
+    }
 
 -- ---- the first log records of a log
 
+-- what comes next where the first k are cut off is log record k
+pub chunk_next : (k : ℕ) (s : List ℕ) {d x rest : List ℕ} {n : ℕ} → n ≡ 24 → d ≡ drop (k * 24) s → (d ≡ x ++ rest) × (len x ≡ min n (len d)) × (0 < len d)
+    → (k < entry_count s) × (x ≡ entry_at s k) × (rest ≡ drop ((k + 1) * 24) s)
+chunk_next k s {d} {x} {rest} size left c =
+    let n : len x ≡ min 24 (len d) = c.1 ∙ ap (λ i. min i (len d)) size in
+    let next : k * 24 + 24 ≡ (k + 1) * 24 = omega arith in (
+      omega (arith, c.2, ap len left, length-drop (k * 24) s),
+      sym (take-append_seam x rest) ∙ ap (take (len x)) (sym c.0) ∙ ap (λ i. take i d) n ∙ take_min 24 d ∙ ap (take 24) left,
+      sym (drop-append_seam x rest) ∙ ap (drop (len x)) (sym c.0) ∙ ap (λ i. drop i d) n ∙ drop_min 24 d ∙ ap (drop 24) left ∙ drop-drop 24 (k * 24) s
+          ∙ ap (λ i. drop i s) next,
+    )
+
+-- and where nothing is left, they are all
+pub chunk_none : (k : ℕ) (s : List ℕ) {d : List ℕ} → d ≡ drop (k * 24) s → len d ≡ 0 → k ≤ entry_count s → k ≡ entry_count s
+chunk_none k s e z h = omega (arith, z, ap len e, length-drop (k * 24) s)
+
+-- none yet
+pub went_none : (m : Channel) (place : ℕ) (s t : List ℕ) → Went m place s t 0 m (record { place = place; length = 0 }) t
+went_none m place s t = record { left = refl; next = sym (add-zero place); wrote = record { place = refl; holds = refl }; short = omega arith }
+
 -- one more
-pub went_next : {m : Channel} {place k : ℕ} {s t x u y v : List ℕ} {r q : Replayed}
-    → k < entry_count s → Went m place s t k r x u → Stepped (channel r.state x) (entry_at s k) r.place r.length u q y v
-    → Went m place s t (k + 1) q y v
-went_next {m} {place} {k} {s} h w g =
+pub went_next : {m n l : Channel} {place k : ℕ} {s t u v : List ℕ} {r q : Replayed}
+    → k < entry_count s → Went m place s t k n r u → Stepped n r u (entry_at s k) l q v
+    → Went m place s t (k + 1) l q v
+went_next {m} {place = place} {k} {s} h w g =
     record {
       left = rw (table_after_next m s k h, ← w.left) g.left;
       next = omega (arith, w.next, g.next);
@@ -62,19 +82,18 @@ went_next {m} {place} {k} {s} h w g =
     }
 
 -- all, where the text has room: what a replay returns and leaves, and the text with the rest wiped
-pub went_all : {m : Channel} {place : ℕ} {s t x u : List ℕ} {r : Replayed} → entry_count s * line_room ≤ len t → Went m place s t (entry_count s) r x u
-    → (r ≡ replay_returned place m s) × (r.length ≤ len t) × (x ≡ (replayed m s).memory) × (zero_from r.length u ≡ holds_only (len t) (joined (log_lines place m s)))
+pub went_all : {m n : Channel} {place : ℕ} {s t u : List ℕ} {r : Replayed} → entry_count s * line_room ≤ len t → Went m place s t (entry_count s) n r u
+    → (r ≡ replay_returned place m s) × (r.length ≤ len t) × (n ≡ replayed m s) × (zero_from r.length u ≡ holds_only (len t) (joined (log_lines place m s)))
 unfolding replay_returned
-went_all {m} {place} {s} {t} {r = r} h w =
-    let e = w.left ∙ table_after_all m s in
+went_all {m} {place = place} {s} {t} {r = r} h w =
     let v = rw (lines_to_all m s place) at w.wrote in
     let f = start_wiped v (omega (arith, v.place, w.short)) in
-    (λ i. record { state = state_of (e i); place = w.next i; length = f.0 i }, omega (arith, w.short), ap (λ c. c.memory) e, f.1)
+    (λ i. record { place = w.next i; length = f.0 i }, omega (arith, w.short), w.left ∙ table_after_all m s, f.1)
 
 -- no log record at all: all stays as it was, and there is no text
-pub none-replayed : (place : ℕ) (m : Channel) → (◌≡◌ {A = Replayed} (record { state = state_of m; place = place; length = 0 }) (replay_returned place m [])) × (m ≡ replayed m []) × ([] ≡ log_lines place m [])
+pub none-replayed : (place : ℕ) (m : Channel) → (◌≡◌ {A = Replayed} (record { place = place; length = 0 }) (replay_returned place m [])) × (m ≡ replayed m []) × ([] ≡ log_lines place m [])
 unfolding entries replay_returned
-none-replayed place m = (λ i. record { state = state_of m; place = sym (add-zero place) i; length = 0 }, refl, refl)
+none-replayed place m = (λ i. record { place = sym (add-zero place) i; length = 0 }, refl, refl)
 
 -- ---- room
 

@@ -5,6 +5,7 @@ use mathlib.Core.Bool.{Bool, true, false, cond, not}
 use mathlib.Core.List.{List, [], ◌∷◌, ◌++◌}
 use lib.Dec.{lit<, lit≤}
 use lib.ListN.{length as len}
+use Rattle.std.proofs.Common.{Option, Some, None}
 use Rattle.octets.specs.Lists.{keep}
 use Rattle.octets.specs.Octets.{little, number, number_at}
 use Rattle.octets.proofs.Lists.{every-keep}
@@ -15,7 +16,7 @@ use Rattle.table.specs.Memory.{leaves, opened}
 use Rattle.trace.specs.Sequences.{names, only, without}
 use Rattle.trace.proofs.Demand3.{wiped_without_trace}
 use Rattle.daylog.specs.declared.LoggedCall.{LoggedCall}
-use Rattle.daylog.specs.declared.LoggedCall.TheVariants.{Clock, Reserve, SetDistance, Wipe, NoCall}
+use Rattle.daylog.specs.declared.LoggedCall.TheVariants.{Clock, Reserve, SetDistance, Wipe}
 use Rattle.daylog.specs.Entries.{log_record_of, call_in, by_call, entry_leaves}
 use Rattle.day.specs.Day.{entries, replayed}
 use Rattle.day.specs.Claims.{calls_in, is_of, without_tenant, wipe_record, TenantTakenOut}
@@ -26,9 +27,9 @@ use Rattle.day.proofs.ByHand.{runs-calls_in, transcript-calls_in}
 -- ---- the log record of a wipe
 
 -- it asks for the wipe
-call_in_wipe : (A : ℕ) → A < 2 ^ 32 → call_in (wipe_record A) ≡ Wipe A
+call_in_wipe : (A : ℕ) → A < 2 ^ 32 → call_in (wipe_record A) ≡ Some (Wipe A)
 unfolding call_in log_record_of number_at little number
-call_in_wipe A h = ap Wipe (number-little 4 A h)
+call_in_wipe A h = ap (λ n. Some (Wipe n)) (number-little 4 A h)
 
 -- it is a log of one log record
 entries_wipe : (A : ℕ) → entries (wipe_record A) ≡ wipe_record A ∷ []
@@ -53,13 +54,13 @@ module _ (A : ℕ) (e : List ℕ) (es : List (List ℕ)) (cs : List Call) (rest 
       go false = f ∙ rw rest
 
   -- whatever it asks for; where it asks for none, it stays and adds no call
-  keep-by_call : (u : LoggedCall) → call_in e ≡ u
+  keep-by_call : (u : Option LoggedCall) → call_in e ≡ u
       → calls_in (cond (not (by_call u (names (only A)) false)) (e ∷ es) es) ≡ without (only A) (by_call u (λ c. c ∷ cs) cs)
-  keep-by_call (Clock slot) f = keep_call (clock slot) (rw f)
-  keep-by_call (Reserve q) f = keep_call (reserve q) (rw f)
-  keep-by_call (SetDistance s d limit) f = keep_call (distance s d limit) (rw f)
-  keep-by_call (Wipe s) f = keep_call (wipe s) (rw f)
-  keep-by_call NoCall f = rw f rest
+  keep-by_call (Some (Clock slot)) f = keep_call (clock slot) (rw f)
+  keep-by_call (Some (Reserve q)) f = keep_call (reserve q) (rw f)
+  keep-by_call (Some (SetDistance s d limit)) f = keep_call (distance s d limit) (rw f)
+  keep-by_call (Some (Wipe s)) f = keep_call (wipe s) (rw f)
+  keep-by_call None f = rw f rest
 
 -- the log records that stay ask for the calls that stay
 calls_in-keep : (A : ℕ) (es : List (List ℕ)) → calls_in (keep (λ e. not (is_of A e)) es) ≡ without (only A) (calls_in es)

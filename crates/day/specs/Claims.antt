@@ -1,5 +1,5 @@
 -- What is claimed of a replayed log, besides each function's promise. `claims` in src/lib.rt promises all of it.
-use Rattle.std.specs.Prelude.{ℕ, ◌+◌, ◌*◌, ◌%◌, ◌<◌, ◌^◌, ◌≡◌, Bool, true, false, not, List, [], ◌∷◌, ◌++◌, length as len, get_or, take, replicate}
+use Rattle.std.specs.Prelude.{ℕ, ◌+◌, ◌*◌, ◌%◌, ◌<◌, ◌^◌, ◌≡◌, Bool, true, false, not, List, [], ◌∷◌, ◌++◌, length as len, get_or, take, replicate, None}
 use Rattle.octets.specs.Lists.{keep, every}
 use Rattle.octets.specs.Octets.{little}
 use Rattle.record.specs.Record.{packed}
@@ -8,7 +8,6 @@ use Rattle.table.specs.Table.{Said, Call}
 use Rattle.table.specs.Memory.{open_refusal, opened}
 use Rattle.trace.specs.Machine.{runs, transcript}
 use Rattle.trace.specs.Sequences.{on_octets, names, only, others_told, others_had_room}
-use Rattle.daylog.specs.declared.LoggedCall.TheVariants.{NoCall}
 use Rattle.daylog.specs.Entries.{call_in, by_call, entry_says}
 use Rattle.lines.specs.Text.{text}
 use Rattle.lines.specs.Day.{said_line}
@@ -35,7 +34,7 @@ ByHand =
 
 -- a log record with no call in it is answered 23, and changes nothing
 abbrev pub NoCallSays : Type 0
-NoCallSays = (m : Channel) (o : List ℕ) → call_in o ≡ NoCall → (on_log.leaves m o ≡ m) × (on_log.says m o ≡ record { refusal = 23; number = 0 })
+NoCallSays = (m : Channel) (o : List ℕ) → call_in o ≡ None → (on_log.leaves m o ≡ m) × (on_log.says m o ≡ record { refusal = 23; number = 0 })
 
 -- ---- the text
 

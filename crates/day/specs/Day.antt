@@ -4,7 +4,7 @@ use Rattle.octets.specs.Lists.{from}
 use Rattle.record.specs.Record.{packed}
 use Rattle.sound.specs.Sound.{Channel, records}
 use Rattle.table.specs.Table.{Said}
-use Rattle.table.specs.Memory.{state_of, opened}
+use Rattle.table.specs.Memory.{opened}
 use Rattle.trace.specs.Machine.{Machine, runs, transcript}
 use Rattle.daylog.specs.Entries.{entry_says, entry_leaves}
 use Rattle.lines.specs.Day.{said_line, state_line, record_line, line_room}
@@ -58,10 +58,10 @@ has_room place s t = leb (entry_count s * line_room) (len t) && ltb (place + ent
 unfoldable pub log_in : ℕ → List ℕ → List ℕ → List ℕ
 log_in place s t = cond (has_room place s t) s []
 
--- what a replay of a log from a place on returns: the state, the next place, and how long the text is
+-- what a replay of a log from a place on returns: the next place, and how long the text is
 unfoldable pub replay_returned : ℕ → Channel → List ℕ → Replayed
 replay_returned place m s =
-    record { state = state_of (replayed m s); place = place + entry_count s; length = len (joined (log_lines place m s)) }
+    record { place = place + entry_count s; length = len (joined (log_lines place m s)) }
 
 -- ---- the table at a moment
 

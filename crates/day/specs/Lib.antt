@@ -1,3 +1,4 @@
 pub mod Day
+pub mod Taken
 pub mod Steps
 pub mod Claims

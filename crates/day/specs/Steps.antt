@@ -3,7 +3,6 @@ use Rattle.std.specs.Prelude.{ℕ, ◌+◌, ◌*◌, ◌≤◌, ◌≡◌, List,
 use Rattle.record.specs.declared.Rec.{Rec}
 use Rattle.sound.specs.Sound.{Channel}
 use Rattle.table.specs.Table.{Said}
-use Rattle.table.specs.Memory.{channel}
 use Rattle.trace.specs.Machine.{runs, transcript}
 use Rattle.daylog.specs.Entries.{entry_says, entry_leaves}
 use Rattle.lines.specs.Day.{said_line, record_line, line_room}
@@ -23,16 +22,18 @@ lines_to place m s k = lines_from place (transcript on_log m (take k (entries s)
 abbrev pub answer_line : ℕ → Said → List ℕ
 answer_line place w = said_line place w.refusal w.number
 
--- A log record o at a place was applied to the table m: the octets are x now, and the text t, filled up to `at`, is u, with one line more.
-pub record Stepped (m : Channel) (o : List ℕ) (place at : ℕ) (t : List ℕ) (r : Replayed) (x u : List ℕ) : Type 0 where
-  pub left : channel r.state x ≡ entry_leaves m o
-  pub next : r.place ≡ place + 1
-  pub wrote : Wrote t at (answer_line place (entry_says m o)) r.length u
-  pub short : r.length ≤ at + line_room
+-- Where the replay r stood, with the table m and the text t, a log record o was applied: the table is n now, the replay stands at q, and the text
+-- is u, with one line more.
+pub record Stepped (m : Channel) (r : Replayed) (t o : List ℕ) (n : Channel) (q : Replayed) (u : List ℕ) : Type 0 where
+  pub left : n ≡ entry_leaves m o
+  pub next : q.place ≡ r.place + 1
+  pub wrote : Wrote t r.length (answer_line r.place (entry_says m o)) q.length u
+  pub short : q.length ≤ r.length + line_room
 
--- The first k log records of the log s, at a place, were applied to the table m, and their lines stand at the start of the text.
-pub record Went (m : Channel) (place : ℕ) (s t : List ℕ) (k : ℕ) (r : Replayed) (x u : List ℕ) : Type 0 where
-  pub left : channel r.state x ≡ table_after m s k
+-- The first k log records of the log s, at a place, were applied to the table m, which is n now, and their lines stand at the start of the text t,
+-- which is u now.
+pub record Went (m : Channel) (place : ℕ) (s t : List ℕ) (k : ℕ) (n : Channel) (r : Replayed) (u : List ℕ) : Type 0 where
+  pub left : n ≡ table_after m s k
   pub next : r.place ≡ place + k
   pub wrote : Wrote t 0 (joined (lines_to place m s k)) r.length u
   pub short : r.length ≤ k * line_room

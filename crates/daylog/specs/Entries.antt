@@ -1,17 +1,16 @@
 -- The log records of document 02, No. 2 and No. 4: what 24 octets ask for, and what that call says and leaves.
-use Rattle.std.specs.Prelude.{ℕ, cond, List, [], ◌∷◌, eqb, length as len}
+use Rattle.std.specs.Prelude.{ℕ, cond, List, [], ◌∷◌, Option, Some, None, eqb, length as len}
 use Rattle.octets.specs.Octets.{number_at, zeros}
 use Rattle.octets.specs.Complement.{signed_of}
 use Rattle.distance.specs.declared.Distance.{Distance}
 use Rattle.distance.specs.declared.Distance.TheVariants.{Unknown, Range}
 use Rattle.distance.specs.Distances.{num}
 use Rattle.sound.specs.Sound.{Channel}
-use Rattle.table.specs.declared.Answer.{Answer}
 use Rattle.table.specs.Table.{Said, Call, clock, reserve, distance, wipe}
-use Rattle.table.specs.Memory.{state_of, leaves, says}
+use Rattle.table.specs.Memory.{leaves, says}
 use Rattle.daylog.specs.declared.LogRecord.{LogRecord}
 use Rattle.daylog.specs.declared.LoggedCall.{LoggedCall}
-use Rattle.daylog.specs.declared.LoggedCall.TheVariants.{Clock, Reserve, SetDistance, Wipe, NoCall}
+use Rattle.daylog.specs.declared.LoggedCall.TheVariants.{Clock, Reserve, SetDistance, Wipe}
 
 -- ---- the layout
 
@@ -38,16 +37,16 @@ in_miles n = cond (eqb n 0xFFFF_FFFF) Unknown (Range (num n))
 -- ---- what a log record asks for
 
 -- a call, where the fields that it does not use are 0
-abbrev pub where_zero : List ℕ → LoggedCall → LoggedCall
-where_zero unused call = cond (zeros unused) call NoCall
+abbrev pub where_zero : List ℕ → LoggedCall → Option LoggedCall
+where_zero unused call = cond (zeros unused) (Some call) None
 
 -- clock: the slot is used
-abbrev pub clock_in : LogRecord → LoggedCall
+abbrev pub clock_in : LogRecord → Option LoggedCall
 clock_in r =
     where_zero (r.rate ∷ r.superframes ∷ r.length ∷ r.bo ∷ r.station ∷ r.distance ∷ r.limit ∷ r.closing ∷ []) (Clock r.slot)
 
 -- reserve: all are used, bs in the slot's place, bo in two's complement
-abbrev pub reserve_in : LogRecord → LoggedCall
+abbrev pub reserve_in : LogRecord → Option LoggedCall
 reserve_in r =
     where_zero (r.closing ∷ [])
     (Reserve
@@ -63,38 +62,38 @@ reserve_in r =
     }))
 
 -- distance: the station, the distance and the limit are used
-abbrev pub distance_in : LogRecord → LoggedCall
+abbrev pub distance_in : LogRecord → Option LoggedCall
 distance_in r =
     where_zero (r.rate ∷ r.superframes ∷ r.length ∷ r.bo ∷ r.slot ∷ r.closing ∷ [])
     (SetDistance r.station (in_miles r.distance) (num r.limit))
 
 -- wipe: the station is used
-abbrev pub wipe_in : LogRecord → LoggedCall
+abbrev pub wipe_in : LogRecord → Option LoggedCall
 wipe_in r =
     where_zero (r.rate ∷ r.superframes ∷ r.length ∷ r.bo ∷ r.slot ∷ r.distance ∷ r.limit ∷ r.closing ∷ []) (Wipe r.station)
 
 -- by the operation: 1 clock, 2 reserve, 3 distance, 4 wipe; another is no call
-abbrev pub by_operation : LogRecord → LoggedCall
+abbrev pub by_operation : LogRecord → Option LoggedCall
 by_operation r =
     cond (eqb r.operation 1) (clock_in r)
     (cond (eqb r.operation 2) (reserve_in r)
     (cond (eqb r.operation 3) (distance_in r)
     (cond (eqb r.operation 4) (wipe_in r)
-    NoCall)))
+    None)))
 
 -- the call in any octets: a log record has 24
-unfoldable pub call_in : List ℕ → LoggedCall
-call_in o = cond (eqb (len o) 24) (by_operation (log_record_of o)) NoCall
+unfoldable pub call_in : List ℕ → Option LoggedCall
+call_in o = cond (eqb (len o) 24) (by_operation (log_record_of o)) None
 
 -- ---- a log record applied to a table
 
 -- what follows from the call in a log record; where there is none, `none`
-abbrev pub by_call : {A : Type 0} → LoggedCall → (Call → A) → A → A
-by_call (Clock slot) follows none = follows (clock slot)
-by_call (Reserve q) follows none = follows (reserve q)
-by_call (SetDistance s d limit) follows none = follows (distance s d limit)
-by_call (Wipe s) follows none = follows (wipe s)
-by_call NoCall follows none = none
+abbrev pub by_call : {A : Type 0} → Option LoggedCall → (Call → A) → A → A
+by_call (Some (Clock slot)) follows none = follows (clock slot)
+by_call (Some (Reserve q)) follows none = follows (reserve q)
+by_call (Some (SetDistance s d limit)) follows none = follows (distance s d limit)
+by_call (Some (Wipe s)) follows none = follows (wipe s)
+by_call None follows none = none
 
 -- its answer: the call's; where there is none 23, before any table check
 unfoldable pub entry_says : Channel → List ℕ → Said
@@ -103,7 +102,3 @@ entry_says m o = by_call (call_in o) (says m) (record { refusal = 23; number = 0
 -- the octets and the state that it leaves: what the call leaves; a 23 changes nothing
 unfoldable pub entry_leaves : Channel → List ℕ → Channel
 entry_leaves m o = by_call (call_in o) (leaves m) m
-
--- what the step returns: the answer, and the state handed back
-unfoldable pub entry_returned : Channel → List ℕ → Answer
-entry_returned m o = record { refusal = (entry_says m o).refusal; number = (entry_says m o).number; state = state_of (entry_leaves m o) }

@@ -1,15 +1,15 @@
 // The records of a channel log: what each asks of the table, and the step that applies one.
-#![tactic(auto)]
+#![tactic(auto, unfolding(crate::specs::Entries::call_in, crate::specs::Entries::entry_says, crate::specs::Entries::entry_leaves))]
 
-ghost use Rattle.std.specs.Prelude.{◌≡◌, [], ◌∷◌, length};
+ghost use Rattle.std.specs.Prelude.{◌≡◌, [], ◌∷◌};
 ghost use Rattle.octets.specs.Octets.{zeros};
-ghost use Rattle.distance.specs.Distances.{num};
-ghost use Rattle.table.specs.Memory.{channel};
-ghost use Rattle.daylog.specs.Entries.{log_record_of, in_miles, clock_in, reserve_in, distance_in, wipe_in, by_operation, call_in, entry_leaves, entry_returned};
+ghost use Rattle.table.specs.Memory.{channel, state_of, call_said};
+ghost use Rattle.daylog.specs.Entries.{log_record_of, in_miles, clock_in, reserve_in, distance_in, wipe_in, by_operation, call_in, entry_says, entry_leaves};
 ghost use Rattle.daylog.specs.Claims.{Claims};
 
 use distance::Distance;
-use table::{Answer, Request, State};
+use refusal::Refusal;
+use table::{Request, State};
 
 // The octets of a log record.
 pub const ENTRY: usize = 24;
@@ -29,50 +29,40 @@ struct LogRecord {
     closing: u32,
 }
 
-// What a log record asks for: a call of the table, or none, which is refused 23.
+// What a log record asks for: a call of the table.
 #[derive(Clone, Copy)]
 pub enum LoggedCall {
     Clock(u32),
     Reserve(Request),
     SetDistance(u32, Distance, f64),
     Wipe(u32),
-    NoCall,
 }
 
-fn log_record(octets: &[u8]) -> LogRecord
-    requires { length octets.now ≡ 24 }
+fn log_record(octets: &[u8; ENTRY]) -> LogRecord
     ensures { result ≡ log_record_of octets.now }
 {
-    let last_four = octets::number_at(octets, 20);
     LogRecord {
-        operation: octets::octet_at(octets, 0),
-        rate: octets::octet_at(octets, 1),
-        superframes: octets::octet_at(octets, 2),
-        length: octets::octet_at(octets, 3),
+        operation: octets[0],
+        rate: octets[1],
+        superframes: octets[2],
+        length: octets[3],
         station: octets::number_at(octets, 4),
         slot: octets::number_at(octets, 8),
         distance: octets::number_at(octets, 12),
         limit: octets::number_at(octets, 16),
-        bo: octets::octet_at(octets, 20),
-        closing: last_four / 256,
+        bo: octets[20],
+        closing: u32::from_le_bytes([octets[21], octets[22], octets[23], 0]),
     }
 }
 
-// Whole miles as a float: every one of them is one.
-fn miles(n: u32) -> f64
-    ensures { result ≡ num n }
-{
-    n as f64
-}
-
-// A distance in whole miles; all ones for unknown.
+// A distance in whole miles; all ones for unknown. No `From`: only in a log record do all ones say so.
 fn in_miles(n: u32) -> Distance
     ensures { result ≡ in_miles n }
 {
-    if n == 4294967295 {
+    if n == u32::MAX {
         return Distance::Unknown;
     }
-    Distance::Range(miles(n))
+    Distance::Range(f64::from(n))
 }
 
 // Whether rate, superframes, length and bo, which only a reserve uses, are 0.
@@ -82,99 +72,78 @@ fn no_series(r: LogRecord) -> bool
     (r.rate == 0) & (r.superframes == 0) & (r.length == 0) & (r.bo == 0)
 }
 
-fn clock_in(r: LogRecord) -> LoggedCall
+fn clock_in(r: LogRecord) -> Option<LoggedCall>
     ensures { result ≡ clock_in r }
 {
     let others = (r.station == 0) & (r.distance == 0) & (r.limit == 0) & (r.closing == 0);
-    if no_series(r) & others {
-        return LoggedCall::Clock(r.slot);
-    }
-    LoggedCall::NoCall
+    (no_series(r) & others).then_some(LoggedCall::Clock(r.slot))
 }
 
-fn reserve_in(r: LogRecord) -> LoggedCall
+fn reserve_in(r: LogRecord) -> Option<LoggedCall>
     ensures { result ≡ reserve_in r }
 {
-    if r.closing == 0 {
-        let d = in_miles(r.distance);
-        return LoggedCall::Reserve(Request {
-            station: r.station,
-            rate: r.rate as u32,
-            superframes: r.superframes as u32,
-            bs: r.slot,
-            length: r.length as u32,
-            bo: octets::signed(r.bo),
-            distance: d,
-            limit: miles(r.limit),
-        });
-    }
-    LoggedCall::NoCall
+    let q = Request {
+        station: r.station,
+        rate: u32::from(r.rate),
+        superframes: u32::from(r.superframes),
+        bs: r.slot,
+        length: u32::from(r.length),
+        bo: octets::signed(r.bo),
+        distance: in_miles(r.distance),
+        limit: f64::from(r.limit),
+    };
+    (r.closing == 0).then_some(LoggedCall::Reserve(q))
 }
 
-fn distance_in(r: LogRecord) -> LoggedCall
+fn distance_in(r: LogRecord) -> Option<LoggedCall>
     ensures { result ≡ distance_in r }
 {
-    if no_series(r) & (r.slot == 0) & (r.closing == 0) {
-        let d = in_miles(r.distance);
-        return LoggedCall::SetDistance(r.station, d, miles(r.limit));
-    }
-    LoggedCall::NoCall
+    let others = (r.slot == 0) & (r.closing == 0);
+    let call = LoggedCall::SetDistance(r.station, in_miles(r.distance), f64::from(r.limit));
+    (no_series(r) & others).then_some(call)
 }
 
-fn wipe_in(r: LogRecord) -> LoggedCall
+fn wipe_in(r: LogRecord) -> Option<LoggedCall>
     ensures { result ≡ wipe_in r }
 {
     let others = (r.slot == 0) & (r.distance == 0) & (r.limit == 0) & (r.closing == 0);
-    if no_series(r) & others {
-        return LoggedCall::Wipe(r.station);
-    }
-    LoggedCall::NoCall
+    (no_series(r) & others).then_some(LoggedCall::Wipe(r.station))
 }
 
-fn by_operation(r: LogRecord) -> LoggedCall
+fn by_operation(r: LogRecord) -> Option<LoggedCall>
     ensures { result ≡ by_operation r }
 {
-    if r.operation == 1 {
-        return clock_in(r);
+    match r.operation {
+        1 => clock_in(r),
+        2 => reserve_in(r),
+        3 => distance_in(r),
+        4 => wipe_in(r),
+        _ => None,
     }
-    if r.operation == 2 {
-        return reserve_in(r);
-    }
-    if r.operation == 3 {
-        return distance_in(r);
-    }
-    if r.operation == 4 {
-        return wipe_in(r);
-    }
-    LoggedCall::NoCall
 }
 
-// What octets ask for.
-pub fn read(octets: &[u8]) -> LoggedCall
+// What octets ask for: a call, or none, which is refused 23.
+pub fn read(octets: &[u8]) -> Option<LoggedCall>
     ensures { result ≡ call_in octets.now }
 {
-    if octets.len() == ENTRY {
-        return by_operation(log_record(octets));
-    }
-    LoggedCall::NoCall
+    let Ok(octets) = octets.try_into() else {
+        return None;
+    };
+    by_operation(log_record(octets))
 }
 
 // Applies a log record to a table. Refused 23 where it asks for no call, before anything that its call is refused for.
-pub fn step(s: State, memory: &mut [u8], octets: &[u8]) -> Answer
-    ensures answer { result ≡ entry_returned (channel s memory.old) octets.now }
-    ensures memory { memory.new ≡ (entry_leaves (channel s memory.old) octets.now).memory }
+pub fn step(s: &mut State, memory: &mut [u8], octets: &[u8]) -> Result<u32, Refusal>
+    ensures answer { call_said result ≡ entry_says (channel s.old memory.old) octets.now }
+    ensures state { s.new ≡ state_of (entry_leaves (channel s.old memory.old) octets.now) }
+    ensures memory { memory.new ≡ (entry_leaves (channel s.old memory.old) octets.now).memory }
 {
-    let e = read(octets);
-    match e {
+    let call = read(octets).ok_or(Refusal::Entry)?;
+    match call {
         LoggedCall::Clock(slot) => s.clock(memory, slot),
         LoggedCall::Reserve(q) => s.reserve(memory, q),
         LoggedCall::SetDistance(station, d, limit) => s.distance(memory, station, d, limit),
         LoggedCall::Wipe(station) => s.wipe(memory, station),
-        LoggedCall::NoCall => Answer {
-            refusal: 23,
-            number: 0,
-            state: s,
-        },
     }
 }
 

@@ -58,13 +58,11 @@ pub fn limit_fits(limit: f64) -> bool
 pub fn distance_of(kind: u32, a: f64, b: f64) -> Distance
     ensures { result ≡ distance_of kind a b }
 {
-    if kind == 1 {
-        return Distance::Range(a);
+    match kind {
+        1 => Distance::Range(a),
+        2 => Distance::Offset(Offset { east: a, north: b }),
+        _ => Distance::Unknown,
     }
-    if kind == 2 {
-        return Distance::Offset(Offset { east: a, north: b });
-    }
-    Distance::Unknown
 }
 
 // What this crate claims over its promises.

@@ -8,12 +8,12 @@ use mathlib.Core.List.{List, [], ◌∷◌, ◌++◌, map}
 use lib.Dec.{leb}
 use lib.ListN.{length as len, get_or, length-append, length-map}
 use borrow.Author.Tests.{le-leb, lt-leb}
+use Rattle.std.proofs.Common.{Option, Some, None}
 use Rattle.octets.specs.Lists.{keep}
 use Rattle.octets.specs.Refusals.{first_of, answer, outside}
 use Rattle.octets.proofs.Lists.{length-keep-not}
 use Rattle.octets.proofs.Refusals.{by_refusal, first_of-zero, outside-false, answer_elim, answer-refused, answer_accepted}
-use Rattle.codec.specs.declared.Lookup.{Lookup}
-use Rattle.codec.specs.Rates.{rate_tests, refused_lookup}
+use Rattle.codec.specs.Rates.{Lookup, rate_tests, refused_lookup}
 use Rattle.codec.proofs.Rates.{bad_list_entry}
 use Rattle.record.specs.declared.Rec.{Rec}
 use Rattle.distance.specs.Distances.{is_far}
@@ -22,25 +22,21 @@ use Rattle.sound.proofs.Sound.{SoundParts, sound_parts}
 use Rattle.table.specs.declared.State.{State}
 use Rattle.slots.specs.declared.Slot.{Slot}
 use Rattle.slots.specs.declared.Slot.TheVariants.{Free, Reusable, Taken}
-use Rattle.slots.specs.declared.SlotAnswer.{SlotAnswer}
-use Rattle.slots.specs.declared.SlotAnswer.TheVariants.{Is, Refused}
 use Rattle.table.specs.Table.{Call, clock, reserve, distance, wipe, look, is_look, new_record, far_octet, owned_by, set_far, changed, reported}
 use Rattle.table.specs.Memory.{channel, state_of, table_of, channel_of}
-use Rattle.slots.specs.Slots.{slot_answer, state_number, slot_said}
+use Rattle.slots.specs.Slots.{SlotAnswer, Is, Refused, slot_answer, state_number, slot_said}
 use Rattle.table.proofs.Memory.{length_kept}
 use Rattle.daylog.specs.declared.LoggedCall.{LoggedCall}
-use Rattle.daylog.specs.declared.LoggedCall.TheVariants.{Clock, Reserve, SetDistance, Wipe, NoCall}
+use Rattle.daylog.specs.declared.LoggedCall.TheVariants.{Clock, Reserve, SetDistance, Wipe}
 use Rattle.daylog.specs.Entries.{log_record_of, call_in, by_call}
 use Rattle.daylog.proofs.Entries.{call_in_elim}
-use Rattle.slotmap.specs.Map.{Mapped, with_map, map_refusal, map_leaves, map_says, map_returned, open_map_refusal, open_map_leaves, open_map_returned, map_entry_says, map_entry_leaves, map_entry_returned}
-use Rattle.slotmap.proofs.Given.{refused_gives_map}
-use Rattle.search.specs.declared.Picked.{Picked}
-use Rattle.search.specs.Search.{searched, picked}
+use Rattle.slotmap.specs.Map.{Mapped, with_map, map_refusal, map_leaves, map_says, open_map_refusal, open_map_leaves, map_entry_says, map_entry_leaves}
+use Rattle.slotmap.proofs.Given.{map_leaves-refused}
+use Rattle.search.specs.Search.{Picked, searched, picked}
 use Rattle.search.proofs.Answers.{found-fits}
 use Rattle.gemthatch.specs.OverC.{over_c, call_number, entry_number}
 use Rattle.gemthatch.specs.Claims.{moved, formed, formed_by_entry, StateFormed, EntryFormed, StateOpened, RefusalTold, ReportedSmall, EntrySmall, FoundSmall, SlotSmall, RateSmall, PickSmall}
-use Rattle.gemthatch.proofs.MapCalls.{accepted_fit, accepted_returned, look-leaves}
-use Rattle.gemthatch.proofs.Most.{returned-call_number}
+use Rattle.gemthatch.proofs.MapCalls.{accepted_fit, accepted_made, look-leaves}
 
 -- ---- over_c
 
@@ -81,12 +77,12 @@ reported_small x c h =
     answer_elim (reported (table_of x.channel) c) (λ _. 0) (λ n. n ≤ 2048) (map_refusal x c) (λ z. reported-most x.channel c h (accepted_held x c z)) (λ _. zero-le)
 
 -- whatever call is in a log record
-by_call_small : (x : Mapped) (e : LoggedCall) → (by_call e (map_says x) (record { refusal = 23; number = 0 })).number ≤ 2048
-by_call_small x (Clock slot) = reported_small x (clock slot) refl
-by_call_small x (Reserve q) = reported_small x (reserve q) refl
-by_call_small x (SetDistance s d limit) = reported_small x (distance s d limit) refl
-by_call_small x (Wipe s) = reported_small x (wipe s) refl
-by_call_small x NoCall = zero-le
+by_call_small : (x : Mapped) (e : Option LoggedCall) → (by_call e (map_says x) (record { refusal = 23; number = 0 })).number ≤ 2048
+by_call_small x (Some (Clock slot)) = reported_small x (clock slot) refl
+by_call_small x (Some (Reserve q)) = reported_small x (reserve q) refl
+by_call_small x (Some (SetDistance s d limit)) = reported_small x (distance s d limit) refl
+by_call_small x (Some (Wipe s)) = reported_small x (wipe s) refl
+by_call_small x None = zero-le
 
 pub entry_small : EntrySmall
 unfolding map_entry_says
@@ -159,26 +155,25 @@ module _ (s : State) (b p : List ℕ) where
   moved_written (look f) h k = absurd (true≢false h)
 
   -- by a call's one number, accepted or refused
-  formed_made : (c : Call) → is_look c ≡ false → formed s c (call_number x c) ≡ (map_returned x c).state
+  formed_made : (c : Call) → is_look c ≡ false → formed s c (call_number x c) ≡ state_of (map_leaves x c).channel
+  unfolding call_number map_says
   formed_made c h = by_refusal (map_refusal x c) accepted refused
     where
-      accepted : map_refusal x c ≡ 0 → formed s c (call_number x c) ≡ (map_returned x c).state
+      accepted : map_refusal x c ≡ 0 → formed s c (call_number x c) ≡ state_of (map_leaves x c).channel
       accepted z =
           let k = accepted_held x c z in
           let n = reported (table_of given) c in
-          let g = accepted_returned x c z h in
-          let e : call_number x c ≡ n = sym (returned-call_number _ x c g) ∙ over_c_accepted n in
-          rw (e, lt-leb 2_000_000_000 n (omega (arith, reported-most given c h k)), ← g) (moved_written c h k)
+          let g = accepted_made x c z h in
+          let e : call_number x c ≡ n = ap (λ w. over_c w.refusal w.number) (sym g.0) ∙ over_c_accepted n in
+          rw (e, lt-leb 2_000_000_000 n (omega (arith, reported-most given c h k)), ← g.1) (moved_written c h k)
 
-      refused : (map_refusal x c ≡ 0 → ⊥) → formed s c (call_number x c) ≡ (map_returned x c).state
+      refused : (map_refusal x c ≡ 0 → ⊥) → formed s c (call_number x c) ≡ state_of (map_leaves x c).channel
       refused z =
           let r = map_refusal x c in
-          let g = (refused_gives_map x c r refl z).result in
-          let e : call_number x c ≡ 2_000_000_000 + r = sym (returned-call_number _ x c g) ∙ over_c-refused r 0 z in
-          rw (e, le-leb 2_000_000_000 (2_000_000_000 + r) (omega arith), ← g)
+          let e : call_number x c ≡ 2_000_000_000 + r = over_c-refused r (map_says x c).number z in
+          rw (e, le-leb 2_000_000_000 (2_000_000_000 + r) (omega arith)) (ap (λ (y : Mapped). state_of y.channel) (map_leaves-refused x c z))
 
 pub state_formed : StateFormed
-unfolding map_returned
 state_formed s b p (clock slot) = formed_made s b p (clock slot) refl
 state_formed s b p (reserve q) = formed_made s b p (reserve q) refl
 state_formed s b p (distance station d limit) = formed_made s b p (distance station d limit) refl
@@ -190,7 +185,7 @@ state_formed s b p (look f) = go (leb 2_000_000_000 (call_number (with_map s b p
     go false = refl
 
 pub entry_formed : EntryFormed
-unfolding entry_number map_entry_says map_entry_returned map_entry_leaves call_number map_returned
+unfolding entry_number map_entry_says map_entry_leaves call_number
 entry_formed s b p o =
     call_in_elim Formed o (rw (over_c-refused 23 0 (omega arith)))
     (λ h. rw h (state_formed s b p (clock (log_record_of o).slot)))
@@ -199,14 +194,14 @@ entry_formed s b p o =
     (λ h station. rw h (state_formed s b p (wipe station)))
   where
     -- what is claimed where a call is in the octets
-    Formed : LoggedCall → Type 0
+    Formed : Option LoggedCall → Type 0
     Formed e =
         let x = with_map s b p in
         let a = by_call e (map_says x) (record { refusal = 23; number = 0 }) in
         formed_by_entry s o (over_c a.refusal a.number) ≡ state_of (by_call e (map_leaves x) x).channel
 
 pub state_opened : StateOpened
-unfolding open_map_returned open_map_leaves
+unfolding open_map_leaves
 state_opened m1 b p =
     by_refusal (open_map_refusal m1 b p)
     (λ z. rw (z, over_c_accepted 0) (ap (λ (y : Mapped). state_of y.channel) (answer_accepted _ _ {m = 0} refl)))

@@ -1,6 +1,6 @@
 pub mod Blocks
 pub mod MapCalls
-pub mod Most
+pub mod Numbers
 pub mod Put
 pub mod Places
 pub mod Formed

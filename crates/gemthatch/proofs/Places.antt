@@ -1,106 +1,65 @@
--- The places of a search's list: what a search with sixteen or more says of one with any number of them, and which hold what is found. Assumes nothing.
-use Prim.Native.Nat.{ℕ, ◌-◌, ◌≤◌}
+-- A search with more places than it ever fills. Assumes nothing.
+use Prim.Native.Nat.{ℕ, ◌-◌}
 use native.Mathlib.Omega.{arith}
-use mathlib.Core.Path.{◌≡◌, refl}
-use mathlib.Core.Bool.{Bool, true, false, not, ◌&&◌, ◌||◌, true≢false, false≢true}
-use mathlib.Core.List.{List, [], ◌∷◌}
-use lib.Dec.{ltb, leb, eqb}
+use mathlib.Core.Path.{◌≡◌, refl, sym, ap, ◌∙◌}
+use mathlib.Core.Bool.{false}
+use mathlib.Core.List.{List, []}
+use lib.Dec.{ltb}
 use lib.ListN.{length, take, replicate}
 use lib.Seq.{take_at}
-use borrow.Author.Tests.{le-ltb}
-use Rattle.octets.specs.Lists.{has}
-use Rattle.octets.specs.Refusals.{first_of, outside}
-use Rattle.octets.proofs.Refusals.{outside-false, answer-refused}
-use Rattle.sound.specs.Sound.{sound}
-use Rattle.table.specs.Memory.{table_of}
-use Rattle.slotmap.specs.Map.{Mapped, is_fresh}
+use Rattle.std.proofs.Common.{min, Ok, Err}
+use borrow.Author.Tests.{ltb-true, ltb-false, lt-ltb, le-ltb}
+use Rattle.refusal.specs.declared.Refusal.{Refusal}
+use Rattle.refusal.specs.Refusals.{number_of}
+use Rattle.refusal.proofs.Numbers.{numbered}
+use Rattle.octets.specs.Refusals.{outside}
+use Rattle.octets.proofs.Refusals.{by_test, outside-false, answer-refused}
+use Rattle.table.specs.Table.{Said}
+use Rattle.table.specs.Memory.{call_said}
+use Rattle.slotmap.specs.Map.{Mapped}
 use Rattle.search.specs.declared.Query.{Query}
-use Rattle.search.specs.declared.Found.{Found}
-use Rattle.search.specs.Search.{qualifies, starts, states_of, search_refusal, found, searched, list_after}
+use Rattle.search.specs.Search.{search_refusal, found, searched, list_after}
 
--- ---- the refusal
-
--- a search's refusal, by what each of its tests says
-abbrev refusal_by : Bool → Bool → Bool → Bool → Bool → Bool → Bool → ℕ
-refusal_by s p r l w t z = first_of ((11, s) ∷ (25, p) ∷ (19, r) ∷ (9, l) ∷ (20, w) ∷ (1, t) ∷ (21, z) ∷ [])
-
--- it is one that comes after 1 alone, or none
-abbrev pub after_places : ℕ → Bool
-after_places n = eqb n 0 || eqb n 21
-
--- if too few places are no refusal unless too many are wanted, fewer places are the refusal 1 where a later one was given or none
-fewer_short : (s p r l w t z t' : Bool) → (w ≡ false → t ≡ false) → (after_places (refusal_by s p r l w t z) && t') ≡ true → 1 ≡ refusal_by s p r l w t' z
-fewer_short true p r l w t z t' k h = absurd (false≢true h)
-fewer_short false true r l w t z t' k h = absurd (false≢true h)
-fewer_short false false true l w t z t' k h = absurd (false≢true h)
-fewer_short false false false true w t z t' k h = absurd (false≢true h)
-fewer_short false false false false true t z t' k h = absurd (false≢true h)
-fewer_short false false false false false true z t' k h = absurd (true≢false (k refl))
-fewer_short false false false false false false true true k h = refl
-fewer_short false false false false false false true false k h = absurd (false≢true h)
-fewer_short false false false false false false false true k h = refl
-fewer_short false false false false false false false false k h = absurd (false≢true h)
-
--- and else they make no difference
-fewer_alike : (s p r l w t z t' : Bool) → (w ≡ false → t ≡ false) → (after_places (refusal_by s p r l w t z) && t') ≡ false
-    → refusal_by s p r l w t z ≡ refusal_by s p r l w t' z
-fewer_alike true p r l w t z t' k h = refl
-fewer_alike false true r l w t z t' k h = refl
-fewer_alike false false true l w t z t' k h = refl
-fewer_alike false false false true w t z t' k h = refl
-fewer_alike false false false false true t z t' k h = refl
-fewer_alike false false false false false true z t' k h = absurd (true≢false (k refl))
-fewer_alike false false false false false false true true k h = absurd (true≢false h)
-fewer_alike false false false false false false true false k h = refl
-fewer_alike false false false false false false false true k h = absurd (true≢false h)
-fewer_alike false false false false false false false false k h = refl
-
--- ---- with so many places, by the search with sixteen or more
-
-module _ (x : Mapped) (q : Query) (all places : ℕ) (h : 16 ≤ all) where
-  -- the tests of 19 and 21
-  abbrev out_of_range : Bool
-  out_of_range =
-      ltb q.lo (table_of x.channel).now || ltb q.hi q.lo || ltb 1_000_000_000 q.hi || leb (table_of x.channel).m1 (q.hi - q.lo)
-
-  abbrev none : Bool
-  none = not (has (qualifies (states_of (table_of x.channel)) q.length) (starts q))
-
-  -- more than 16 wanted is refused before the list's length is asked
-  room : outside 1 16 q.wanted ≡ false → ltb all q.wanted ≡ false
-  room e =
+-- at most 16 are wanted, or the search is refused before its places are counted: so more make no difference
+module _ (x : Mapped) (q : Query) (places : ℕ) where
+  few : outside 1 16 q.wanted ≡ false → ltb (min places 16) q.wanted ≡ ltb places q.wanted
+  few e =
       let w = outside-false 1 16 q.wanted e in
-      le-ltb all q.wanted (omega arith)
+      by_test (ltb places q.wanted)
+      (λ t. let l = ltb-true places q.wanted t in lt-ltb (min places 16) q.wanted (omega arith) ∙ sym t)
+      (λ t. let l = ltb-false places q.wanted t in le-ltb (min places 16) q.wanted (omega arith) ∙ sym t)
 
-  -- the refusal is 1
-  pub search_refusal_short : (after_places (search_refusal x q all) && ltb places q.wanted) ≡ true → 1 ≡ search_refusal x q places
+  search_refusal-min : search_refusal x q (min places 16) ≡ search_refusal x q places
   unfolding search_refusal
-  search_refusal_short = fewer_short (not (sound x.channel)) (not (is_fresh x)) out_of_range (outside 1 32 q.length) _ _ none (ltb places q.wanted) room
+  search_refusal-min = by_test (outside 1 16 q.wanted) (λ w. rw w refl) (λ w. rw (few w) refl)
 
-  module _ (k : (after_places (search_refusal x q all) && ltb places q.wanted) ≡ false) where
-    -- or the same, and with it all that a search gives
-    search_refusal_alike : search_refusal x q all ≡ search_refusal x q places
-    unfolding search_refusal
-    search_refusal_alike = fewer_alike (not (sound x.channel)) (not (is_fresh x)) out_of_range (outside 1 32 q.length) _ _ none (ltb places q.wanted) room k
+  pub found-min : found x q (min places 16) ≡ found x q places
+  unfolding found
+  found-min = rw search_refusal-min refl
 
-    pub found_alike : found x q all ≡ found x q places
-    unfolding found
-    found_alike = rw search_refusal_alike
+  pub searched-min : searched x q (min places 16) ≡ searched x q places
+  unfolding searched
+  searched-min = rw (search_refusal-min, found-min) refl
 
-    pub searched_alike : searched x q all ≡ searched x q places
-    unfolding searched
-    searched_alike = rw (search_refusal_alike, found_alike)
+  -- ---- what a search tells with so many places
 
--- ---- what is found
+  module _ {m : ℕ} (all : m ≡ min places 16) where
+    -- its answer is that with any number of places
+    pub told_alike : {w : Said} → w ≡ searched x q m → w ≡ searched x q places
+    told_alike e = e ∙ ap (searched x q) all ∙ searched-min
 
--- none where the refusal is 1
-pub found_short : (x : Mapped) (q : Query) (places : ℕ) → 1 ≡ search_refusal x q places → [] ≡ found x q places
-unfolding found
-found_short x q places e = answer-refused _ (λ _. []) e (λ z. omega arith)
+    -- what is found stands in front of its list
+    pub told_found : {n : ℕ} {list : List ℕ} → call_said (Ok n) ≡ searched x q m → list ≡ list_after x q m
+        → (n ≡ length (found x q places)) × (take n list ≡ found x q places)
+    unfolding searched list_after
+    told_found {n} {list} e l =
+        let f = found x q places in
+        let k : n ≡ length f = ap (λ w. w.number) e ∙ ap (λ i. length (found x q i)) all ∙ ap length found-min in
+        (k, rw (l, all, found-min, k) (take_at f (replicate (min places 16 - length f) 0) (length f) refl))
 
--- the starts found stand in front
-pub found_front : (x : Mapped) (q : Query) (places : ℕ) (f : Found) (list : List ℕ) → f ≡ searched x q places → list ≡ list_after x q places
-    → take f.number list ≡ found x q places
-unfolding searched list_after
-found_front x q places f list e l =
-    rw (e, l) (take_at (found x q places) (replicate (places - length (found x q places)) 0) (length (found x q places)) refl)
+    -- and nothing where it is refused
+    pub told_none : (e : Refusal) → call_said (Err e) ≡ searched x q m → found x q places ≡ []
+    unfolding searched found
+    told_none e h =
+        let r : search_refusal x q places ≡ number_of e = sym search_refusal-min ∙ sym (ap (λ w. w.refusal) h ∙ ap (λ i. search_refusal x q i) all) in
+        sym (answer-refused _ (λ _. []) (sym r) (numbered e))

@@ -5,9 +5,10 @@ use Rattle.codec.specs.Rates.{rate_lookup}
 use Rattle.sound.specs.Sound.{Channel}
 use Rattle.table.specs.declared.State.{State}
 use Rattle.table.specs.Table.{Call, clock, reserve, distance, wipe, look, is_look}
+use Rattle.table.specs.Memory.{state_of}
 use Rattle.slots.specs.Slots.{slot_answer, slot_said}
 use Rattle.daylog.specs.Entries.{log_record_of}
-use Rattle.slotmap.specs.Map.{Mapped, with_map, map_says, map_returned, open_map_refusal, open_map_returned, map_entry_says, map_entry_returned}
+use Rattle.slotmap.specs.Map.{Mapped, with_map, map_leaves, map_says, open_map_refusal, open_map_leaves, map_entry_says, map_entry_leaves}
 use Rattle.search.specs.declared.Query.{Query}
 use Rattle.search.specs.Search.{searched, picked}
 use Rattle.gemthatch.specs.OverC.{host_block, block_from, over_c, call_number, entry_number}
@@ -53,17 +54,17 @@ formed_by_open m1 x = cond (leb 2_000_000_000 x) (record { m1 = 0; now = 0; coun
 abbrev pub BlockHandedBack : Type 0
 BlockHandedBack = (b : Block) → block_from (host_block b) ≡ b
 
--- the state that the host forms from an answer is the state that the method hands back
+-- the state that the host forms from an answer is the state that the call leaves
 abbrev pub StateFormed : Type 0
-StateFormed = (s : State) (b p : List ℕ) (c : Call) → formed s c (call_number (with_map s b p) c) ≡ (map_returned (with_map s b p) c).state
+StateFormed = (s : State) (b p : List ℕ) (c : Call) → formed s c (call_number (with_map s b p) c) ≡ state_of (map_leaves (with_map s b p) c).channel
 
 -- and so it is after the step of a log record
 abbrev pub EntryFormed : Type 0
-EntryFormed = (s : State) (b p o : List ℕ) → formed_by_entry s o (entry_number (with_map s b p) o) ≡ (map_entry_returned (with_map s b p) o).state
+EntryFormed = (s : State) (b p o : List ℕ) → formed_by_entry s o (entry_number (with_map s b p) o) ≡ state_of (map_entry_leaves (with_map s b p) o).channel
 
 -- and after an opening
 abbrev pub StateOpened : Type 0
-StateOpened = (m1 : ℕ) (b p : List ℕ) → formed_by_open m1 (over_c (open_map_refusal m1 b p) 0) ≡ (open_map_returned m1 b p).state
+StateOpened = (m1 : ℕ) (b p : List ℕ) → formed_by_open m1 (over_c (open_map_refusal m1 b p) 0) ≡ state_of (open_map_leaves m1 b p).channel
 
 -- a number below 2,000,000,000 is never taken for a refusal, and every refusal is told
 abbrev pub RefusalTold : Type 0

@@ -1,12 +1,13 @@
 -- What goes over C: a block with its destination's kind as a number, the state as three numbers, a call's answer as one, and a search's list as octets.
-use Rattle.std.specs.Prelude.{ℕ, ◌+◌, ◌/◌, cond, List, [], ◌∷◌, ◌++◌, eqb, Float, ℤ, get_or}
+use Rattle.std.specs.Prelude.{ℕ, ◌+◌, ◌/◌, cond, List, [], ◌∷◌, ◌++◌, Option, Some, None, eqb, Float, ℤ, get_or}
 use Rattle.octets.specs.Octets.{little, holds_only}
 use Rattle.octets.specs.Refusals.{answer}
 use Rattle.codec.specs.declared.Destination.{Destination}
 use Rattle.codec.specs.declared.Destination.TheVariants.{Address, NoRebroadcast}
 use Rattle.codec.specs.declared.Block.{Block}
-use Rattle.codec.specs.declared.Reading.{Reading}
+use Rattle.codec.specs.NineOctets.{Reading, Writing}
 use Rattle.distance.specs.Distances.{distance_of}
+use Rattle.record.specs.declared.Rec.{Rec}
 use Rattle.record.specs.Record.{blank}
 use Rattle.sound.specs.Sound.{Channel}
 use Rattle.table.specs.declared.Request.{Request}
@@ -14,18 +15,13 @@ use Rattle.table.specs.Table.{Call}
 use Rattle.table.specs.Memory.{channel}
 use Rattle.slots.specs.Slots.{slot_answer, slot_said}
 use Rattle.slotmap.specs.Map.{Mapped, with_map, map_says, map_entry_says}
-use Rattle.walk.specs.declared.Handed.{Handed}
-use Rattle.walk.specs.declared.Handed.TheVariants.{One, NoMore}
 use Rattle.walk.specs.Walk.{record_at}
 use Rattle.search.specs.declared.Query.{Query}
 use Rattle.search.specs.Search.{found, searched}
 use Rattle.gemthatch.specs.declared.HostBlock.{HostBlock}
 use Rattle.gemthatch.specs.declared.HostReading.{HostReading}
+use Rattle.gemthatch.specs.declared.HostWriting.{HostWriting}
 use Rattle.gemthatch.specs.declared.Place.{Place}
-
--- no refusal has a larger number
-abbrev pub largest_refusal : ℕ
-largest_refusal = 34
 
 -- the number reported, the slot's state or the number found; refused, 2,000,000,000 plus the refusal's number
 unfoldable pub over_c : ℕ → ℕ → ℕ
@@ -66,6 +62,10 @@ host_block b =
 -- a reading as a C host has it
 abbrev pub host_reading : Reading → HostReading
 host_reading r = record { refusal = r.refusal; block = host_block r.block }
+
+-- a writing as a C host has it
+abbrev pub host_writing : Writing → HostWriting
+host_writing w = record { refusal = w.refusal; octets = w.octets }
 
 -- what C hands over as a kind, an address and three octets: 1 is no re-broadcast, any other an address; what the kind doesn't use is ignored
 abbrev pub destination_from : ℕ → ℕ → List ℕ → Destination
@@ -145,9 +145,9 @@ search_list x q octets = holds_only octets (in_octets (found x q (octets / 4)))
 -- ---- the walk
 
 -- what is handed out: how many records, and the record; where there is no more, all 0
-abbrev pub place : ℕ → Handed → Place
-place refusal (One r) = record { refusal = refusal; handed = 1; rec = r }
-place refusal NoMore = record { refusal = refusal; handed = 0; rec = blank }
+abbrev pub place : ℕ → Option Rec → Place
+place refusal (Some r) = record { refusal = refusal; handed = 1; rec = r }
+place refusal None = record { refusal = refusal; handed = 0; rec = blank }
 
 -- record i of a table, or no more
 unfoldable pub place_at : Channel → ℕ → Place

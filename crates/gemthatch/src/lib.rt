@@ -2,7 +2,8 @@
 // one number. include/gemthatch.h is the manual. The state's now is called `time` here, since contracts use that word.
 #![tactic(auto)]
 
-ghost use Rattle.std.specs.Prelude.{◌≡◌, [], ◌*◌, ◌≤◌, length, length as len, take};
+ghost use Rattle.std.specs.Prelude.{◌≡◌, [], ◌*◌, ◌≤◌, None, length, length as len};
+ghost use Rattle.refusal.specs.Refusals.{number_of};
 ghost use Rattle.octets.specs.Octets.{holds_only};
 ghost use Rattle.octets.specs.Refusals.{first_of};
 ghost use Rattle.codec.specs.NineOctets.{reading, writing};
@@ -11,19 +12,18 @@ ghost use Rattle.codec.specs.Parameters.{parameter_tests};
 ghost use Rattle.tally.specs.Calls.{counted};
 ghost use Rattle.distance.specs.Distances.{distance_of};
 ghost use Rattle.table.specs.Table.{clock, reserve, distance, wipe};
-ghost use Rattle.slots.specs.Slots.{state_number};
+ghost use Rattle.table.specs.Memory.{call_said};
 ghost use Rattle.slotmap.specs.Map.{with_map, map_leaves, open_map_refusal, open_map_leaves, map_entry_leaves};
-ghost use Rattle.search.specs.Search.{found, searched, picked};
-ghost use Rattle.gemthatch.specs.OverC.{largest_refusal, over_c, host_block, host_reading, destination_from, block_from, lent, lent_map, request, query, call_number, entry_number, slot_number, search_number, in_octets, search_list, place_at};
+ghost use Rattle.search.specs.Search.{picked};
+ghost use Rattle.gemthatch.specs.OverC.{over_c, host_block, host_reading, host_writing, destination_from, block_from, lent, lent_map, request, query, call_number, entry_number, slot_number, search_number, in_octets, search_list, place, place_at};
 ghost use Rattle.gemthatch.specs.Claims.{Claims};
 
-use codec::{Block, Destination, Reading, Writing};
-use record::{Rec, Zeros};
-use search::{Found, Query};
-use slots::{Slot, SlotAnswer};
+use codec::{Block, Destination};
+use record::Rec;
+use refusal::Refusal;
+use search::Query;
 use table::{Request, State};
 use tally::Tally;
-use walk::Handed;
 
 // The fields of a reservation as a C host has them: the destination's kind, 0 an address and 1 no re-broadcast, the address, the three
 // octets, and the other fields.
@@ -41,12 +41,33 @@ pub struct HostBlock {
     pub bt: u32,
 }
 
+// The fields where there are none.
+const NO_BLOCK: HostBlock = HostBlock {
+    destination: 0,
+    d: 0,
+    information: [0; 3],
+    blg: 0,
+    roff: 0,
+    br: 0,
+    bs: 0,
+    bo: 0,
+    bt: 0,
+};
+
 // What reading gives a C host: the bare refusal, 0 for none, and the fields, all 0 where it is refused.
 #[repr(C)]
 #[derive(Clone, Copy)]
 pub struct HostReading {
     pub refusal: u32,
     pub block: HostBlock,
+}
+
+// What writing gives a C host: the bare refusal, 0 for none, and the nine octets, all 0 where it is refused.
+#[repr(C)]
+#[derive(Clone, Copy)]
+pub struct HostWriting {
+    pub refusal: u32,
+    pub octets: [u8; 9],
 }
 
 // What a walk hands out at a place: the bare refusal, how many records (1, or 0 for no more), and the record, all 0 where there is none.
@@ -60,109 +81,56 @@ pub struct Place {
 
 // ---- answers and lists as C has them
 
+// The one number of a refused call.
+fn refused(e: Refusal) -> u32
+    ensures { result ≡ over_c (number_of e) 0 }
+{
+    2000000000 + u32::from(e)
+}
+
 // The one number of an answer.
-fn over_c(refusal: u32, number: u32) -> u32
-    requires { refusal ≤ largest_refusal }
-    ensures { result ≡ over_c refusal number }
+fn over_c(said: Result<u32, Refusal>) -> u32
+    ensures { result ≡ over_c (call_said said).refusal (call_said said).number }
 {
-    if refusal == 0 {
-        return number;
-    }
-    2000000000 + refusal
-}
-
-// The number of a slot's state.
-fn state_number(x: Slot) -> u32
-    ensures { result ≡ state_number x }
-{
-    match x {
-        Slot::Free => 0,
-        Slot::Reusable => 1,
-        Slot::Taken => 2,
+    match said {
+        Ok(number) => number,
+        Err(e) => refused(e),
     }
 }
 
-// Puts the first n numbers into a wiped list, four octets to each.
-fn put_numbers(list: &mut [u8], numbers: &[u32], n: usize)
-    requires n_in_bounds { (n ≤ length numbers.now) × (n * 4 ≤ length list.old) }
-    requires list_value { list.old ≡ holds_only (length list.old) [] }
-    ensures { list.new ≡ holds_only (length list.old) (in_octets (take n numbers.now)) }
+// Puts numbers into a wiped list, four octets to each.
+fn put_numbers(list: &mut [u8], numbers: &[u32])
+    requires room { length numbers.now * 4 ≤ length list.old }
+    requires wiped { list.old ≡ holds_only (length list.old) [] }
+    ensures { list.new ≡ holds_only (length list.old) (in_octets numbers.now) }
 {
-    let mut i = 0;
-    while i < n {
-        let a = i * 4;
-        let e = a + 4;
-        octets::put_number(&mut list[a..e], 0, numbers[i]);
-        i += 1;
+    for i in 0..numbers.len() {
+        octets::put_number(list, i * 4, numbers[i]);
     }
-}
-
-// A search with a list of so many places. It never fills more than 16, and with fewer only the refusal 1 comes in before the slots are
-// looked at: so all 16 are handed on, and are wiped as one.
-fn search_places(
-    s: State,
-    memory: &[u8],
-    map: &[u8],
-    q: Query,
-    starts: &mut [u32],
-    places: usize,
-) -> Found
-    requires { 16 ≤ length starts.old }
-    ensures answer { result ≡ searched (with_map s memory.now map.now) q places }
-    ensures starts { take result.number starts.new ≡ found (with_map s memory.now map.now) q places }
-{
-    let f = search::search(s, memory, map, q, starts);
-    if places < q.wanted as usize {
-        if (f.refusal == 0) | (f.refusal == 21) {
-            return Found {
-                refusal: 1,
-                number: 0,
-            };
-        }
-    }
-    f
 }
 
 // ---- the nine octets, the rates, the parameters
 
 // A block for a C host: what its destination's kind does not use is 0.
-fn host_block(b: Block) -> HostBlock
-    ensures { result ≡ host_block b }
-{
-    let d = b.d;
-    match d {
-        Destination::Address(a) => HostBlock {
-            destination: 0,
-            d: a,
-            information: [0, 0, 0],
-            blg: b.blg,
-            roff: b.roff,
-            br: b.br,
-            bs: b.bs,
-            bo: b.bo,
-            bt: b.bt,
-        },
-        Destination::NoRebroadcast(o1, o2, o3) => HostBlock {
-            destination: 1,
-            d: 0,
-            information: [o1, o2, o3],
-            blg: b.blg,
-            roff: b.roff,
-            br: b.br,
-            bs: b.bs,
-            bo: b.bo,
-            bt: b.bt,
-        },
-    }
-}
+impl From<Block> for HostBlock {
+    ghost from_gives = { λ b h. h ≡ host_block b };
 
-fn host_reading(r: Reading) -> HostReading
-    ensures { result ≡ host_reading r }
-{
-    let block = host_block(r.block);
-    HostReading {
-        refusal: r.refusal,
-        block,
+    fn from(b: Block) -> HostBlock {
+        let (destination, d, information) = match b.d {
+            Destination::Address(a) => (0, a, [0, 0, 0]),
+            Destination::NoRebroadcast(o1, o2, o3) => (1, 0, [o1, o2, o3]),
+        };
+        HostBlock {
+            destination,
+            d,
+            information,
+            blg: b.blg,
+            roff: b.roff,
+            br: b.br,
+            bs: b.bs,
+            bo: b.bo,
+            bt: b.bt,
+        }
     }
 }
 
@@ -177,19 +145,20 @@ fn destination_from(kind: u32, d: u32, information: [u8; 3]) -> Destination
 }
 
 // The block that C hands over: what its destination's kind does not use is ignored.
-fn block_from(h: HostBlock) -> Block
-    ensures { result ≡ block_from h }
-{
-    let information = h.information;
-    let d = destination_from(h.destination, h.d, information);
-    Block {
-        d,
-        blg: h.blg,
-        roff: h.roff,
-        br: h.br,
-        bs: h.bs,
-        bo: h.bo,
-        bt: h.bt,
+impl From<HostBlock> for Block {
+    ghost from_gives = { λ h b. b ≡ block_from h };
+
+    fn from(h: HostBlock) -> Block {
+        let d = destination_from(h.destination, h.d, h.information);
+        Block {
+            d,
+            blg: h.blg,
+            roff: h.roff,
+            br: h.br,
+            bs: h.bs,
+            bo: h.bo,
+            bt: h.bt,
+        }
     }
 }
 
@@ -198,22 +167,30 @@ fn block_from(h: HostBlock) -> Block
 pub extern "C" fn gemthatch_read(octets: &[u8]) -> HostReading
     ensures { result ≡ host_reading (reading octets.now) }
 {
-    let r = codec::read(octets);
-    let refusal = r.refusal;
-    // Out by an exit of its own: where the two ways met, every field would first have to find a register.
-    if refusal != 0 {
-        return host_reading(codec::refused_reading(refusal));
+    match codec::read(octets) {
+        Ok(block) => HostReading {
+            refusal: 0,
+            block: HostBlock::from(block),
+        },
+        Err(e) => HostReading {
+            refusal: u32::from(e),
+            block: NO_BLOCK,
+        },
     }
-    host_reading(r)
 }
 
 // Writes a reservation. Refused, in this order: 8, 9, 3, 4, 5, 6, 34.
 #[unsafe(no_mangle)]
-pub extern "C" fn gemthatch_write(block: HostBlock) -> Writing
-    ensures { result ≡ writing (block_from block) }
+pub extern "C" fn gemthatch_write(block: HostBlock) -> HostWriting
+    ensures { result ≡ host_writing (writing (block_from block)) }
 {
-    let b = block_from(block);
-    codec::write(b)
+    match codec::write(Block::from(block)) {
+        Ok(octets) => HostWriting { refusal: 0, octets },
+        Err(e) => HostWriting {
+            refusal: u32::from(e),
+            octets: [0; 9],
+        },
+    }
 }
 
 // The rate that a code stands for. Refused, in this order: 7, 3.
@@ -221,8 +198,7 @@ pub extern "C" fn gemthatch_write(block: HostBlock) -> Writing
 pub extern "C" fn gemthatch_rate(rates: &[u8], code: u32) -> u32
     ensures { result ≡ over_c (rate_lookup rates.now code).refusal (rate_lookup rates.now code).number }
 {
-    let f = codec::rate(rates, code);
-    over_c(f.refusal, f.number)
+    over_c(codec::rate(rates, code))
 }
 
 // 0 where a figure fits its parameter. Refused, in this order: 22, 10.
@@ -230,8 +206,10 @@ pub extern "C" fn gemthatch_rate(rates: &[u8], code: u32) -> u32
 pub extern "C" fn gemthatch_parameter(number: u32, figure: u32) -> u32
     ensures { result ≡ over_c (first_of (parameter_tests number figure)) 0 }
 {
-    let refusal = codec::parameter(number, figure);
-    over_c(refusal, 0)
+    match codec::parameter(number, figure) {
+        Ok(()) => 0,
+        Err(e) => refused(e),
+    }
 }
 
 // ---- the table
@@ -243,8 +221,11 @@ pub extern "C" fn gemthatch_open(memory: &mut [u8], map: &mut [u8], m1: u32) -> 
     ensures memory { memory.new ≡ (open_map_leaves m1 memory.old map.old).channel.memory }
     ensures map { map.new ≡ (open_map_leaves m1 memory.old map.old).map }
 {
-    let a = slotmap::open(memory, map, m1);
-    over_c(a.refusal, a.number)
+    let mut s = State::default();
+    match slotmap::open(&mut s, memory, map, m1) {
+        Ok(()) => 0,
+        Err(e) => refused(e),
+    }
 }
 
 // Sets the time, drops the records that are over, reports how many. Refused, in this order: 11, 25, 12, 13.
@@ -261,13 +242,12 @@ pub extern "C" fn gemthatch_clock(
     ensures memory { memory.new ≡ (map_leaves (lent_map m1 time count memory.old map.old) (clock slot)).channel.memory }
     ensures map { map.new ≡ (map_leaves (lent_map m1 time count memory.old map.old) (clock slot)).map }
 {
-    let s = State {
+    let mut s = State {
         m1,
         now: time,
         count,
     };
-    let a = slotmap::clock(s, memory, map, slot);
-    over_c(a.refusal, a.number)
+    over_c(slotmap::clock(&mut s, memory, map, slot))
 }
 
 // Adds one record at the end. Refused, in this order: 11, 25, 8, 14, 15, 9, 5, 6, 24, 18, 16, 17.
@@ -293,12 +273,11 @@ pub extern "C" fn gemthatch_reserve(
     ensures memory { memory.new ≡ (map_leaves (lent_map m1 time count memory.old map.old) (reserve (request station rate superframes bs length bo kind a b limit))).channel.memory }
     ensures map { map.new ≡ (map_leaves (lent_map m1 time count memory.old map.old) (reserve (request station rate superframes bs length bo kind a b limit))).map }
 {
-    let s = State {
+    let mut s = State {
         m1,
         now: time,
         count,
     };
-    let d = distance::distance_of(kind, a, b);
     let q = Request {
         station,
         rate,
@@ -306,11 +285,10 @@ pub extern "C" fn gemthatch_reserve(
         bs,
         length,
         bo,
-        distance: d,
+        distance: distance::distance_of(kind, a, b),
         limit,
     };
-    let r = slotmap::reserve(s, memory, map, q);
-    over_c(r.refusal, r.number)
+    over_c(slotmap::reserve(&mut s, memory, map, q))
 }
 
 // Rewrites far in all the station's records, reports how many it has. Refused, in this order: 11, 25, 8, 18.
@@ -331,14 +309,13 @@ pub extern "C" fn gemthatch_distance(
     ensures memory { memory.new ≡ (map_leaves (lent_map m1 time count memory.old map.old) (distance station (distance_of kind a b) limit)).channel.memory }
     ensures map { map.new ≡ (map_leaves (lent_map m1 time count memory.old map.old) (distance station (distance_of kind a b) limit)).map }
 {
-    let s = State {
+    let mut s = State {
         m1,
         now: time,
         count,
     };
     let d = distance::distance_of(kind, a, b);
-    let r = slotmap::distance(s, memory, map, station, d, limit);
-    over_c(r.refusal, r.number)
+    over_c(slotmap::distance(&mut s, memory, map, station, d, limit))
 }
 
 // Removes the station's records, reports how many. Refused, in this order: 11, 25, 8.
@@ -355,13 +332,12 @@ pub extern "C" fn gemthatch_wipe(
     ensures memory { memory.new ≡ (map_leaves (lent_map m1 time count memory.old map.old) (wipe station)).channel.memory }
     ensures map { map.new ≡ (map_leaves (lent_map m1 time count memory.old map.old) (wipe station)).map }
 {
-    let s = State {
+    let mut s = State {
         m1,
         now: time,
         count,
     };
-    let a = slotmap::wipe(s, memory, map, station);
-    over_c(a.refusal, a.number)
+    over_c(slotmap::wipe(&mut s, memory, map, station))
 }
 
 // Applies a log record. Refused 23 where it is none, before anything that its call is refused for.
@@ -378,13 +354,12 @@ pub extern "C" fn gemthatch_replay_step(
     ensures memory { memory.new ≡ (map_entry_leaves (lent_map m1 time count memory.old map.old) entry.now).channel.memory }
     ensures map { map.new ≡ (map_entry_leaves (lent_map m1 time count memory.old map.old) entry.now).map }
 {
-    let s = State {
+    let mut s = State {
         m1,
         now: time,
         count,
     };
-    let a = slotmap::step(s, memory, map, entry);
-    over_c(a.refusal, a.number)
+    over_c(slotmap::step(&mut s, memory, map, entry))
 }
 
 // ---- slots
@@ -406,8 +381,8 @@ pub extern "C" fn gemthatch_slot_state(
         count,
     };
     match slots::slot_state(s, memory, slot) {
-        SlotAnswer::Is(x) => state_number(x),
-        SlotAnswer::Refused(n) => over_c(n, 0),
+        Ok(state) => u32::from(state),
+        Err(e) => refused(e),
     }
 }
 
@@ -441,12 +416,17 @@ pub extern "C" fn gemthatch_search(
         length,
         wanted,
     };
-    let mut starts = [0u32; 16];
-    let places = list.len() / 4;
-    let f = search_places(s, memory, map, q, &mut starts, places);
-    let n = f.number as usize;
-    put_numbers(list, &starts, n);
-    over_c(f.refusal, f.number)
+    // No search lists more than 16.
+    let places = (list.len() / 4).min(16);
+    let mut room = [0u32; 16];
+    let starts = &mut room[..places];
+    match search::search(s, memory, map, q, starts) {
+        Ok(number) => {
+            put_numbers(list, &starts[..number as usize]);
+            number
+        }
+        Err(e) => refused(e),
+    }
 }
 
 // Which of the n found to use, by a number r. Refused 20 for n outside 1..16.
@@ -454,11 +434,21 @@ pub extern "C" fn gemthatch_search(
 pub extern "C" fn gemthatch_pick(n: u32, r: u32) -> u32
     ensures { result ≡ over_c (picked n r).refusal (picked n r).place }
 {
-    let p = search::pick(n, r);
-    over_c(p.refusal, p.place)
+    over_c(search::pick(n, r))
 }
 
 // ---- the walk and the tally
+
+// A place with no record.
+fn no_record(refusal: u32) -> Place
+    ensures { result ≡ place refusal None }
+{
+    Place {
+        refusal,
+        handed: 0,
+        rec: Rec::default(),
+    }
+}
 
 // Record i of a table, or no more. Refused 11.
 #[unsafe(no_mangle)]
@@ -476,29 +466,14 @@ pub extern "C" fn gemthatch_record_at(
         now: time,
         count,
     };
-    let a = walk::record_at(s, memory, i);
-    let refusal = a.refusal;
-    let handed = a.handed;
-    match handed {
-        Handed::One(r) => Place {
-            refusal,
+    match walk::record_at(s, memory, i) {
+        Ok(Some(rec)) => Place {
+            refusal: 0,
             handed: 1,
-            rec: r,
+            rec,
         },
-        Handed::NoMore => Place {
-            refusal,
-            handed: 0,
-            rec: Rec {
-                station: 0,
-                first: 0,
-                rate: 0,
-                superframes: 0,
-                length: 0,
-                far: 0,
-                bo: 0,
-                zeros: Zeros { a: 0, b: 0, c: 0 },
-            },
-        },
+        Ok(None) => no_record(0),
+        Err(e) => no_record(u32::from(e)),
     }
 }
 

@@ -1,19 +1,21 @@
 -- Laws of the lines of a replayed log and of a table: how long they are, and such a line by value. Assumes nothing.
 use Prim.Native.Nat.{ℕ, ◌^◌, ◌≤◌, ◌<◌}
-use mathlib.Core.Path.{◌≡◌, refl, ◌∙◌}
+use mathlib.Core.Path.{◌≡◌, refl, sym, ◌∙◌}
 use mathlib.Core.List.{List, []}
 use native.Mathlib.Nat.{zero-add}
 use native.Mathlib.Omega.{arith}
-use lib.ListN.{length, replicate, length-append}
+use lib.ListN.{length, take, replicate, length-append}
+use lib.Seq.{take-append_seam}
+use Rattle.octets.specs.Octets.{holds_only}
 use Rattle.octets.specs.Complement.{signed_of}
 use Rattle.octets.specs.Refusals.{answer}
 use Rattle.octets.proofs.Refusals.{answer_elim}
 use Rattle.octets.proofs.Zeros.{sets-holds_only}
 use Rattle.record.specs.declared.Rec.{Rec}
-use Rattle.lines.specs.declared.Line.{Line}
 use Rattle.lines.specs.Text.{text}
 use Rattle.lines.specs.Listing.{refused_line}
-use Rattle.lines.specs.Day.{ok_line, said_line, state_line, record_line, line_room, line_of}
+use Rattle.lines.specs.Day.{ok_line, said_line, state_line, record_line, line_room, IsLine}
+use Rattle.lines.specs.declared.Writer.{Writer}
 use Rattle.lines.specs.Steps.{Room, Wrote}
 use Rattle.lines.proofs.Decimal.{decimal_one, decimal_two, decimal_thousand, length-decimal}
 use Rattle.lines.proofs.Signed.{signed_of-size, length-signed_decimal}
@@ -65,17 +67,18 @@ record_room r h =
 
 -- ---- a line by value
 
--- there is room for it at the start of zeros
-pub start_room : {x : List ℕ} → length x ≤ line_room → Room (replicate line_room 0) 0 x
-start_room h = record { room = omega arith }
+-- there is room for it at the start
+pub start_room : {w : Writer} {x : List ℕ} → length x ≤ line_room → w.at ≡ 0 → length w.octets.now ≡ line_room → Room w x
+start_room h e f = record { room = omega arith }
 
--- and put there, with its length, it is the line by value
-pub line_put : {x l : List ℕ} {r : ℕ} → length x ≤ line_room → Wrote (replicate line_room 0) 0 x r l
-    → (◌≡◌ {A = Line} (record { length = r; octets = l }) (line_of x)) × (r ≤ line_room)
-line_put {x} {l} {r} h w =
+-- the octets o after a text was put at the start of zeros, with its length, are a line by value: that text
+pub line_put : {x l o : List ℕ} {r : ℕ} → length x ≤ line_room → Wrote (replicate line_room 0) 0 x r l → o ≡ l
+    → IsLine r o × ((take r o ≡ x) × (length (take r o) ≤ line_room))
+line_put {x} {l} {o} {r} h w same =
     let e : r ≡ length x = w.place ∙ zero-add (length x) in
-    let f = w.holds ∙ sets-holds_only line_room [] x 0 refl (omega arith) in
-    (λ i. record { length = e i; octets = f i }, omega arith)
+    let f : o ≡ holds_only line_room x = same ∙ w.holds ∙ sets-holds_only line_room [] x 0 refl (omega arith) in
+    let g : take r o ≡ x = rw (e, f, take-append_seam) in
+    ((omega arith, rw g (sym e), rw g (sym f)), (g, rw g h))
 
 -- ---- a sample
 

@@ -5,4 +5,5 @@ pub mod Signed
 pub mod Lines
 pub mod Readings
 pub mod Pieces
+pub mod Appended
 pub mod Day

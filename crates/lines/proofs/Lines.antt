@@ -1,21 +1,22 @@
 -- Laws of a group's line, and of the lines of several groups. Assumes nothing.
 use Prim.Native.Nat.{ℕ, ◌+◌, ◌^◌, ◌≤◌}
-use mathlib.Core.Path.{◌≡◌, refl, sym}
-use mathlib.Core.Bool.{Bool, true, false}
+use mathlib.Core.Path.{◌≡◌, sym}
 use mathlib.Core.List.{List, ◌++◌}
 use native.Mathlib.Numerals.{add-one}
 use native.Mathlib.Omega.{arith}
-use borrow.Author.Tests.{eqb-true, eqb-false, leb-false}
-use lib.Dec.{eqb}
+use borrow.Author.Tests.{leb-false}
 use lib.ListN.{length, length-append}
+use Rattle.std.proofs.Common.{Ok, Err, false}
+use Rattle.refusal.specs.declared.Refusal.{Refusal}
+use Rattle.refusal.specs.Refusals.{number_of, Tells}
+use Rattle.refusal.proofs.Numbers.{not_zero}
 use Rattle.octets.specs.Octets.{AreOctets}
 use Rattle.octets.proofs.Complement.{within127}
-use Rattle.octets.proofs.Refusals.{answer_accepted, answer-refused}
+use Rattle.octets.proofs.Refusals.{answer_accepted, answer-refused, answer_elim}
 use Rattle.codec.specs.declared.Destination.{Destination}
 use Rattle.codec.specs.declared.Destination.TheVariants.{Address, NoRebroadcast}
 use Rattle.codec.specs.declared.Block.{Block}
 use Rattle.codec.specs.Steps.{Fitting}
-use Rattle.codec.specs.declared.Reading.{Reading}
 use Rattle.codec.specs.NineOctets.{bad_address, reading}
 use Rattle.codec.proofs.Tests.{read_fitting, reading_refusal_most}
 use Rattle.lines.specs.Listing.{destination_text, block_line, refused_line, line, group, first_lines, longest}
@@ -24,16 +25,18 @@ use Rattle.lines.proofs.Signed.{length-signed_decimal}
 
 -- ---- which line
 
-module _ (g : List ℕ) (r : Reading) (e : r ≡ reading g) where
+module _ (g : List ℕ) where
   -- an accepted group has the line of its fields
-  pub line-block_line : r.refusal ≡ 0 → line g ≡ block_line r.block
+  pub line-block_line : {b : Block} → Tells (Ok b) (reading g).refusal (reading g).block → line g ≡ block_line b
   unfolding line
-  line-block_line z = rw (← e) (sym (answer_accepted (block_line r.block) refused_line (sym z)))
+  line-block_line t = rw t.1 (sym (answer_accepted (block_line (reading g).block) refused_line (sym t.0)))
 
   -- and any other that of its refusal
-  pub line-refused_line : (r.refusal ≡ 0 → ⊥) → line g ≡ refused_line r.refusal
+  pub line-refused_line : (e : Refusal) → Tells {A = Block} (Err e) (reading g).refusal (reading g).block → line g ≡ refused_line (number_of e)
   unfolding line
-  line-refused_line n = rw (← e) (sym (answer-refused (block_line r.block) refused_line refl n))
+  line-refused_line e t =
+      let z = not_zero e in
+      sym (answer-refused (block_line (reading g).block) refused_line (sym t) (λ k. omega arith))
 
 -- one group more
 pub first_lines_next : (n : ℕ) (s : List ℕ) → first_lines (n + 1) s ≡ first_lines n s ++ line (group s n)
@@ -71,11 +74,8 @@ refused_line_short n h = simp length-append (omega (arith, length-decimal 0 n (o
 
 -- so no line is
 pub line-longest : (g : List ℕ) → AreOctets g → length (line g) ≤ longest
-line-longest g are = go (eqb (reading g).refusal 0) refl
-  where
-    go : (t : Bool) → eqb (reading g).refusal 0 ≡ t → length (line g) ≤ longest
-    go true e =
-        let z = eqb-true (reading g).refusal 0 e in
-        rw (line-block_line g (reading g) refl z) (block_line_short _ (read_fitting g are z))
-    go false e =
-        rw (line-refused_line g (reading g) refl (eqb-false (reading g).refusal 0 e)) (refused_line_short _ (reading_refusal_most g))
+unfolding line
+line-longest g are =
+    answer_elim (block_line (reading g).block) refused_line (λ x. length x ≤ longest) (reading g).refusal
+    (λ z. block_line_short (reading g).block (read_fitting g are z))
+    (λ n. refused_line_short (reading g).refusal (reading_refusal_most g))

@@ -7,8 +7,7 @@ use lib.IntN.{pos, negsuc}
 use lib.ListN.{length}
 use Rattle.octets.specs.Refusals.{answer}
 use Rattle.codec.specs.declared.Destination.TheVariants.{Address, NoRebroadcast}
-use Rattle.codec.specs.declared.Reading.{Reading}
-use Rattle.codec.specs.NineOctets.{reading, read_tests, field_tests}
+use Rattle.codec.specs.NineOctets.{Reading, reading, read_tests, field_tests}
 
 -- document 01's sample
 abbrev pub sample_octets : List ℕ

@@ -1,42 +1,24 @@
--- The size of a signed number, and the number in decimal, as the code works them out. omega does not read ℤ. Assumes nothing.
-use Prim.Native.Nat.{ℕ, suc, ◌+◌, ◌-◌, ◌^◌, ◌≤◌, ◌<◌}
+-- The size of a signed number, and the number in decimal, as the code puts it. omega does not read ℤ. Assumes nothing.
+use Prim.Native.Nat.{ℕ, suc, ◌+◌, ◌^◌, ◌≤◌, ◌<◌}
 use mathlib.Core.Path.{◌≡◌, refl, sym, ◌∙◌}
-use mathlib.Core.Bool.{Bool, true, false, cond, true≢false}
+use mathlib.Core.Bool.{Bool, true, false}
 use mathlib.Core.List.{List, [], ◌∷◌, ◌++◌}
 use native.Mathlib.Nat.{add-zero}
 use native.Mathlib.Numerals.{add-one}
 use native.Mathlib.Omega.{arith}
 use borrow.Author.Tests.{ltb-true, ltb-false, lt-ltb, le-ltb}
 use lib.Dec.{ltb}
-use lib.IntN.{ℤ, pos, negsuc, nat_abs, ◌-ℤ◌}
-use lib.Signed.{lt_z, mag}
+use lib.IntN.{ℤ, pos, negsuc, nat_abs}
+use lib.Signed.{lt_z}
+use mir.Val.{bool_byte}
 use lib.ListN.{length, set, length-set, length-append}
 use Rattle.octets.specs.Complement.{signed_of}
 use Rattle.lines.specs.Text.{signed_decimal}
-use Rattle.lines.specs.Steps.{Room, Wrote, field}
+use Rattle.lines.specs.Steps.{Wrote, field}
 use Rattle.lines.proofs.Decimal.{length-decimal}
 use Rattle.lines.proofs.Wrote.{sets_over}
 
 -- ---- its size
-
--- no number is below 0
-none_below : (n : ℕ) → ltb n 0 ≡ true → ⊥
-none_below n h = omega (arith, ltb-true n 0 h)
-
--- below 0, -1 less the number is one less than its size
-pub minus_below : (z : ℤ) → lt_z z (pos 0) ≡ true → negsuc 0 -ℤ z ≡ pos (mag z)
-minus_below (pos n) h = absurd (none_below n h)
-minus_below (negsuc n) h = let e : suc n - 1 ≡ n = omega arith in simp (le-ltb (suc n) 1 (omega arith), e)
-
--- and one more is the size
-pub size_below : (z : ℤ) → lt_z z (pos 0) ≡ true → mag z + 1 ≡ nat_abs z
-size_below (pos n) h = absurd (none_below n h)
-size_below (negsuc n) h = add-one n
-
--- from 0 on, a number is its size
-pub same_above : (z : ℤ) → lt_z z (pos 0) ≡ false → z ≡ pos (mag z)
-same_above (pos n) h = refl
-same_above (negsuc n) h = absurd (true≢false h)
 
 -- the number that an octet says has a size of at most 128
 pub signed_of-size : (n : ℕ) → n < 256 → nat_abs (signed_of n) ≤ 128
@@ -56,14 +38,14 @@ length-signed_decimal k (negsuc n) h = omega (arith, length-decimal k (suc n) h)
 
 -- a minus is put, and then the number's size behind it, or in its place where the number is not below 0
 abbrev after_sign : ℕ → ℤ → ℕ
-after_sign at z = at + cond (lt_z z (pos 0)) 1 0
+after_sign at z = at + bool_byte (lt_z z (pos 0))
 
 module _ (l : List ℕ) (at after : ℕ) where
   -- there is room for the size after the minus
-  pub sign_room : (z : ℤ) → Room l at (signed_decimal z ++ (after ∷ [])) → Room (set l at 45) (after_sign at z) (field (nat_abs z) after)
+  pub sign_room : (z : ℤ) → at + length (signed_decimal z ++ (after ∷ [])) ≤ length l → after_sign at z + length (field (nat_abs z) after) ≤ length (set l at 45)
   unfolding signed_decimal
-  sign_room (pos n) h = rw (le-ltb n 0 (omega arith)) (record { room = rw length-set (omega arith) })
-  sign_room (negsuc n) h = record { room = rw length-set (omega arith) }
+  sign_room (pos n) h = rw (le-ltb n 0 (omega arith), length-set) (omega arith)
+  sign_room (negsuc n) h = rw length-set (omega arith)
 
   -- and then the signed number is put
   pub sign_wrote : (z : ℤ) {r : ℕ} {l₁ : List ℕ} → Wrote (set l at 45) (after_sign at z) (field (nat_abs z) after) r l₁

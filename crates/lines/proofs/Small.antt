@@ -1,7 +1,7 @@
 -- A number below 1000, digit by digit, each zero in front of it overwritten by the next digit. Assumes nothing.
 use Prim.Native.Nat.{ℕ, ◌+◌, ◌/◌, ◌%◌, ◌<◌}
 use mathlib.Core.Path.{◌≡◌, refl}
-use mathlib.Core.Bool.{Bool, true, false, cond}
+use mathlib.Core.Bool.{Bool, true, false}
 use mathlib.Core.List.{List}
 use native.Mathlib.Nat.{add-zero}
 use native.Mathlib.Numerals.{add-one}
@@ -10,17 +10,18 @@ use borrow.Author.Tests.{ltb-true, ltb-false}
 use lib.Dec.{ltb}
 use lib.ListN.{set}
 use lib.Seq.{set-set}
+use mir.Val.{bool_byte}
 use Rattle.lines.specs.Text.{decimal}
 use Rattle.lines.specs.Steps.{Wrote}
 use Rattle.lines.proofs.Decimal.{decimal_one, decimal_two, decimal-three}
 
 -- where the second digit goes
 abbrev pub second : ℕ → ℕ → ℕ
-second at n = at + cond (ltb 99 n) 1 0
+second at n = at + bool_byte (ltb 99 n)
 
 -- and the third
 abbrev pub third : ℕ → ℕ → ℕ
-third at n = second at n + cond (ltb 9 n) 1 0
+third at n = second at n + bool_byte (ltb 9 n)
 
 module _ (l : List ℕ) (at n : ℕ) (small : n < 1000) where
   -- the three digits, put there, are the number
@@ -29,8 +30,8 @@ module _ (l : List ℕ) (at n : ℕ) (small : n < 1000) where
   small_wrote = go (ltb 99 n) (ltb 9 n) refl refl
     where
       go : (t u : Bool) → ltb 99 n ≡ t → ltb 9 n ≡ u
-          → Wrote l at (decimal n) (at + cond t 1 0 + cond u 1 0 + 1)
-          (set (set (set l at (48 + n / 100)) (at + cond t 1 0) (48 + n / 10 % 10)) (at + cond t 1 0 + cond u 1 0) (48 + n % 10))
+          → Wrote l at (decimal n) (at + bool_byte t + bool_byte u + 1)
+          (set (set (set l at (48 + n / 100)) (at + bool_byte t) (48 + n / 10 % 10)) (at + bool_byte t + bool_byte u) (48 + n % 10))
       go true true e f =
           rw (decimal-three n (ltb-true 99 n e) small)
           (record { place = omega arith; holds = rw (add-one (at + 1), add-one at) })

@@ -1,14 +1,17 @@
--- Laws of texts that are put one after another. Assumes nothing.
+-- Laws of texts that are put one after another, into a list and by a writer. Assumes nothing.
 use Prim.Native.Nat.{ℕ, suc, ◌+◌, ◌≤◌, ◌<◌}
-use mathlib.Core.Path.{◌≡◌, ap, sym, ◌∙◌}
-use mathlib.Core.List.{List, [], ◌∷◌, ◌++◌}
+use mathlib.Core.Path.{◌≡◌, refl, ap, sym, ◌∙◌}
+use mathlib.Core.List.{List, [], ◌∷◌, ◌++◌, append_assoc}
 use native.Mathlib.Nat.{add-zero, zero-add}
 use native.Mathlib.Numerals.{add-one}
 use native.Mathlib.Omega.{arith}
+use borrow.Rule.Slice.PartMut.{put_mid}
 use lib.ListN.{length, get_or, take, drop, set, length-append}
-use lib.Seq.{sets, sets-eq, length-sets, set-set, split_at, take-suc, take_all, take-append_seam}
+use Rattle.std.proofs.lemmas.List.{drop-drop}
+use lib.Seq.{sets, sets-eq, length-sets, set-set, take-suc, take-append_seam}
 use Rattle.octets.specs.Octets.{zero_from, holds_only}
-use Rattle.lines.specs.Steps.{Room, Wrote}
+use Rattle.lines.specs.declared.Writer.{Writer}
+use Rattle.lines.specs.Steps.{Room, Wrote, Put}
 
 -- one text and then another, as one
 sets_append : (l : List ℕ) (at : ℕ) (x y : List ℕ) → sets l at (x ++ y) ≡ sets (sets l at x) (at + length x) y
@@ -22,6 +25,10 @@ pub sets_over : (l : List ℕ) (at a : ℕ) (x : List ℕ) → 0 < length x → 
 sets_over l at a [] h = absurd (omega arith)
 sets_over l at a (b ∷ x) h = rw set-set
 
+-- what is copied over a part of the memory is put there
+pub part_wrote : (l x : List ℕ) (at k : ℕ) → k ≡ length x → at + length x ≤ length l → Wrote l at x (at + length x) (put_mid at k l x)
+part_wrote l x at k e h = record { place = refl; holds = rw (e, drop-drop, sets-eq x l at h, append_assoc) }
+
 -- the memory keeps its length
 pub length_wrote : {l l₁ x : List ℕ} {at r : ℕ} → Wrote l at x r l₁ → length l₁ ≡ length l
 length_wrote w = ap length w.holds ∙ simp length-sets
@@ -34,29 +41,6 @@ and_then {l} {x = x} {y} {at} a b =
       holds = b.holds ∙ rw (a.place, a.holds) (sym (sets_append l at x y));
     }
 
--- where there is room for both, there is room for the first
-pub room_first : {l x : List ℕ} {at : ℕ} (y : List ℕ) → Room l at (x ++ y) → Room l at x
-room_first {x = x} y h = record { room = omega (arith, length-append x y) }
-
--- and after it for the second
-pub room_then : {l l₁ x y : List ℕ} {at r : ℕ} → Room l at (x ++ y) → Wrote l at x r l₁ → Room l₁ r y
-room_then {l} {x = x} {y} {at} h w =
-    record { room = omega (arith, w.place, length_wrote w, length-append x y) }
-
--- a text s octet by octet: its first i are put, and there is room for all of it
-module _ (s : List ℕ) (i : ℕ) {l l₁ : List ℕ} {at r : ℕ} (w : Wrote l at (take i s) r l₁) where
-  -- there is room for the next octet
-  pub room_next : Room l at s → i < length s → Room l₁ r (get_or s i 0 ∷ [])
-  room_next h b = room_first (drop (suc i) s) (room_then (rw (split_at s i 0 b) at h) w)
-
-  -- which is put
-  pub text_next : {l₂ : List ℕ} {r₁ : ℕ} → i < length s → Wrote l₁ r (get_or s i 0 ∷ []) r₁ l₂ → Wrote l at (take (i + 1) s) r₁ l₂
-  text_next b v = rw (add-one, take-suc s i 0 b) (and_then w v)
-
-  -- all are put
-  pub text-whole : length s ≤ i → Wrote l at s r l₁
-  text-whole h = rw (take_all i s h) at w
-
 -- put at the start, and the rest wiped: the memory holds the text only
 pub start_wiped : {l l₁ x : List ℕ} {r : ℕ} → Wrote l 0 x r l₁ → length x ≤ length l → (r ≡ length x) × (zero_from r l₁ ≡ holds_only (length l) x)
 start_wiped {l} {l₁} {x} {r} w h =
@@ -64,3 +48,30 @@ start_wiped {l} {l₁} {x} {r} w h =
     let f : l₁ ≡ x ++ drop (length x) l = w.holds ∙ (sets-eq x l 0 (rw zero-add h) ∙ rw zero-add) in
     let g : take r l₁ ≡ x = rw (e, f, take-append_seam) in
     (e, rw (g, length_wrote w, e))
+
+-- ---- by a writer
+
+-- no text at all
+pub put_none : (w : Writer) → Put w [] w
+put_none w = record { same = refl; size = refl; wrote = record { place = sym (add-zero w.at); holds = refl } }
+
+-- one text and then another
+pub put_then : {w v u : Writer} {x y : List ℕ} → Put w x v → Put v y u → Put w (x ++ y) u
+put_then a b = record { same = b.same ∙ a.same; size = b.size ∙ a.size; wrote = and_then a.wrote b.wrote }
+
+-- what was written at a writer's place was put by it
+pub put_of : {w v : Writer} {x : List ℕ} → v.octets.ghost_name ≡ w.octets.ghost_name → Wrote w.octets.now w.at x v.at v.octets.now → Put w x v
+put_of s p = record { same = s; size = length_wrote p; wrote = p }
+
+-- one octet more of the text s
+pub put_next : {w v u : Writer} (s : List ℕ) (i : ℕ) → i < length s → Put w (take i s) v → Put v (get_or s i 0 ∷ []) u → Put w (take (i + 1) s) u
+put_next s i h p q = rw (add-one, take-suc s i 0 h) (put_then p q)
+
+-- where there is room for both, there is room for the first
+pub room_first : {w : Writer} {x : List ℕ} (y : List ℕ) → Room w (x ++ y) → Room w x
+room_first {x = x} y h = record { room = omega (arith, h.room, length-append x y) }
+
+-- and after it for the second
+pub room_then : {w v : Writer} {x y : List ℕ} → Room w (x ++ y) → Put w x v → Room v y
+room_then {x = x} {y} h p =
+    record { room = omega (arith, h.room, p.wrote.place, p.size, length-append x y) }

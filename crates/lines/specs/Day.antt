@@ -1,10 +1,11 @@
 -- The lines of a replayed log, and of a table at a moment.
-use Rattle.std.specs.Prelude.{ℕ, List, ◌++◌, length as len}
+use Rattle.std.specs.Prelude.{ℕ, ◌≤◌, ◌≡◌, List, ◌++◌, length, take, Result, Ok, Err}
+use Rattle.refusal.specs.declared.Refusal.{Refusal}
+use Rattle.refusal.specs.Refusals.{number_of}
 use Rattle.octets.specs.Octets.{holds_only}
 use Rattle.octets.specs.Complement.{signed_of}
 use Rattle.octets.specs.Refusals.{answer}
 use Rattle.record.specs.declared.Rec.{Rec}
-use Rattle.lines.specs.declared.Line.{Line}
 use Rattle.lines.specs.Text.{text, decimal, signed_decimal}
 use Rattle.lines.specs.Listing.{refused_line}
 
@@ -15,6 +16,11 @@ ok_line n = text "ok " ++ decimal n ++ text "\n"
 -- a log record's line: its place, a space, then "ok" and the number reported, or "refused" and the refusal's number
 unfoldable pub said_line : ℕ → ℕ → ℕ → List ℕ
 said_line place refusal number = decimal place ++ text " " ++ answer refusal (ok_line number) refused_line
+
+-- the line of what a result tells
+abbrev pub told_line : ℕ → Result ℕ Refusal → List ℕ
+told_line place (Ok number) = said_line place 0 number
+told_line place (Err e) = said_line place (number_of e) 0
 
 -- a table's first line: M1, now and count
 unfoldable pub state_line : ℕ → ℕ → ℕ → List ℕ
@@ -42,6 +48,6 @@ record_line r =
 abbrev pub line_room : ℕ
 line_room = 43
 
--- a line by value: how long it is, and its octets, the rest 0
-abbrev pub line_of : List ℕ → Line
-line_of x = record { length = len x; octets = holds_only line_room x }
+-- a line by value: so many of its octets are the line, which has room, and the rest are 0
+abbrev pub IsLine : ℕ → List ℕ → Type 0
+IsLine n octets = (n ≤ line_room) × (length (take n octets) ≡ n) × (holds_only line_room (take n octets) ≡ octets)

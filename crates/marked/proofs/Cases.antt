@@ -19,8 +19,7 @@ use Rattle.series.specs.Series.{some_below, in_block, in_series, further_before,
 use Rattle.sound.specs.Sound.{Channel, records, lasts, sound}
 use Rattle.table.specs.Table.{Table, Call, clock}
 use Rattle.table.specs.Memory.{channel_of, leaves, says, opened}
-use Rattle.slots.specs.declared.SlotAnswer.{SlotAnswer}
-use Rattle.slots.specs.Slots.{state_by, slot_state, slot_answer, slot_on}
+use Rattle.slots.specs.Slots.{SlotAnswer, state_by, slot_state, slot_answer, slot_on}
 use Rattle.slots.specs.Window.{slot_state_number, window_states}
 use Rattle.trace.specs.Machine.{runs}
 use Rattle.trace.specs.Records.{Sound, left_on, said_on, on_records}

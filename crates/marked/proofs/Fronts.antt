@@ -1,10 +1,10 @@
 -- An output list that holds an answer only has it at its front. Assumes nothing.
-use Rattle.std.proofs.Common.{ℕ, ◌≡◌, ◌≤◌, List, length, take, ap, arith, length-append}
+use Rattle.std.proofs.Common.{ℕ, ◌≡◌, ◌≤◌, List, Ok, length, take, ap, arith, length-append}
 use Rattle.std.proofs.Math.Seq.{take-append_seam}
 use Rattle.octets.specs.Octets.{holds_only}
 use Rattle.search.specs.declared.Query.{Query}
-use Rattle.search.specs.declared.Found.{Found}
 use Rattle.search.specs.Search.{found, searched, list_after}
+use Rattle.table.specs.Memory.{call_said}
 use Rattle.slotmap.specs.Map.{Mapped}
 
 -- with n numbers in the answer, the first n can be lent
@@ -16,6 +16,6 @@ pub counts_only : (places n : ℕ) (answer out : List ℕ) → n ≡ length answ
 counts_only places n answer out e f = rw (f, e) (rw length-append (omega arith), rw take-append_seam)
 
 -- so has a search's list what was found
-pub counts_found : (x : Mapped) (q : Query) (places : ℕ) (r : Found) (out : List ℕ) → r ≡ searched x q places → out ≡ list_after x q places → StandsInFront r.number out
+pub counts_found : (x : Mapped) (q : Query) (places : ℕ) (n : ℕ) (out : List ℕ) → call_said (Ok n) ≡ searched x q places → out ≡ list_after x q places → StandsInFront n out
 unfolding searched list_after
-counts_found x q places r out e f = counts_only places r.number (found x q places) out (ap (λ y. y.number) e) f
+counts_found x q places n out e f = counts_only places n (found x q places) out (ap (λ y. y.number) e) f

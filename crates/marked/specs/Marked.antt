@@ -2,8 +2,7 @@
 use Rattle.std.specs.Prelude.{ℕ, ◌+◌, ◌-◌, ◌≡◌, true, false, List, [], ◌∷◌, map, ℤ, pos, negsuc, take, drop, set}
 use Rattle.codec.specs.declared.Destination.{Destination}
 use Rattle.codec.specs.declared.Destination.TheVariants.{Address, NoRebroadcast}
-use Rattle.codec.specs.declared.Reading.{Reading}
-use Rattle.codec.specs.NineOctets.{reading, refused_reading}
+use Rattle.codec.specs.NineOctets.{Reading, reading, refused_reading}
 use Rattle.distance.specs.declared.Distance.{Distance}
 use Rattle.distance.specs.declared.Distance.TheVariants.{Unknown, Range}
 use Rattle.distance.specs.Distances.{num, is_far, offset}
@@ -12,10 +11,9 @@ use Rattle.record.specs.declared.Rec.{Rec}
 use Rattle.series.specs.Series.{last_slot}
 use Rattle.sound.specs.Sound.{Channel, records}
 use Rattle.slots.specs.declared.Slot.TheVariants.{Free, Taken}
-use Rattle.slots.specs.declared.SlotAnswer.TheVariants.{Is}
 use Rattle.table.specs.Table.{Call, clock, reserve}
 use Rattle.table.specs.Memory.{leaves, says, opened}
-use Rattle.slots.specs.Slots.{slot_answer}
+use Rattle.slots.specs.Slots.{Is, slot_answer}
 use Rattle.trace.specs.Machine.{runs}
 use Rattle.trace.specs.Sequences.{on_octets}
 use Rattle.slotmap.specs.Map.{Mapped, with_fresh}

@@ -6,8 +6,10 @@ ghost use Rattle.std.specs.Prelude.{◌≤◌, ◌<◌};
 ghost use Rattle.marked.specs.Marked.{Marked};
 
 use distance::{Distance, Offset};
+use pieces::Failure;
+use refusal::Refusal;
 use search::Query;
-use slots::{Slot, SlotAnswer};
+use slots::Slot;
 use std::io;
 use table::{Request, State};
 
@@ -19,9 +21,9 @@ fn claims()
 // ---- what is written: a line's name, its items with a space in front of each, and its end
 
 // Tells why standard output could not be written, unless it was.
-fn tell_unless(rt: &impl Eprint, written: io::Result<()>) {
-    if let Err(error) = written {
-        let _ = eprintln!(rt; "marked: standard output: {error}");
+fn tell_unless(rt: &(impl Print + Eprint), written: io::Result<()>) {
+    if let Err(e) = written {
+        pieces::tell(rt, "marked", Failure::Output(e));
     }
 }
 
@@ -29,40 +31,34 @@ fn put(rt: &(impl Print + Eprint), text: &[u8]) {
     tell_unless(rt, rt.write_all(text));
 }
 
-fn put_number(rt: &(impl Print + Eprint), n: u64) {
+fn put_number(rt: &(impl Print + Eprint), n: impl Into<u64>) {
     put(rt, b" ");
-    tell_unless(rt, rt.print(n));
+    tell_unless(rt, rt.print(n.into()));
 }
 
-fn put_numbers(rt: &(impl Print + Eprint), list: &[u32]) {
+fn put_numbers<N: Copy + Into<u64>>(rt: &(impl Print + Eprint), list: &[N]) {
     for n in list {
-        put_number(rt, u64::from(*n));
+        put_number(rt, *n);
     }
 }
 
-fn put_octets(rt: &(impl Print + Eprint), list: &[u8]) {
-    for n in list {
-        put_number(rt, u64::from(*n));
-    }
-}
-
-fn put_refused(rt: &(impl Print + Eprint), n: u32) {
+fn put_refused(rt: &(impl Print + Eprint), e: Refusal) {
     put(rt, b" refused");
-    put_number(rt, n as u64);
+    put_number(rt, u32::from(e));
 }
 
-fn put_state(rt: &(impl Print + Eprint), x: Slot) {
+fn state_name(x: Slot) -> &'static [u8] {
     match x {
-        Slot::Free => put(rt, b" free"),
-        Slot::Reusable => put(rt, b" reusable"),
-        Slot::Taken => put(rt, b" taken"),
+        Slot::Free => b" free",
+        Slot::Reusable => b" reusable",
+        Slot::Taken => b" taken",
     }
 }
 
 fn put_slot(rt: &(impl Print + Eprint), s: State, memory: &[u8], slot: u32) {
     match slots::slot_state(s, memory, slot) {
-        SlotAnswer::Is(x) => put_state(rt, x),
-        SlotAnswer::Refused(n) => put_refused(rt, n),
+        Ok(x) => put(rt, state_name(x)),
+        Err(e) => put_refused(rt, e),
     }
 }
 
@@ -105,10 +101,12 @@ fn put_readings(rt: &(impl Print + Eprint)) {
 const LIMIT: f64 = 150.0;
 
 // The table that holds what is asked for at a slot, alone.
-fn reserve_alone(memory: &mut [u8], m1: u32, slot: u32, q: Request) -> State {
-    let opened = State::open(memory, m1).state;
-    let clocked = opened.clock(memory, slot).state;
-    clocked.reserve(memory, q).state
+fn reserve_alone(memory: &mut [u8], m1: u32, slot: u32, q: Request) -> Result<State, Refusal> {
+    let mut s = State::default();
+    s.open(memory, m1)?;
+    s.clock(memory, slot)?;
+    s.reserve(memory, q)?;
+    Ok(s)
 }
 
 // What a station asks for T.
@@ -125,7 +123,7 @@ fn request_t(station: u32, bo: i32, distance: Distance) -> Request {
     }
 }
 
-fn reserve_t(memory: &mut [u8], bo: i32, distance: Distance) -> State {
+fn reserve_t(memory: &mut [u8], bo: i32, distance: Distance) -> Result<State, Refusal> {
     reserve_alone(memory, 4500, 100, request_t(1, bo, distance))
 }
 
@@ -148,15 +146,19 @@ fn put_slots(rt: &(impl Print + Eprint), s: State, memory: &[u8]) {
 // What a clock answers, made on a copy of T's table: the refusal, if any, now, how many records were dropped, and whether T is there.
 fn put_clock(rt: &(impl Print + Eprint), s: State, memory: [u8; record::SIZE], slot: u32) {
     let mut left = memory;
-    let a = s.clock(&mut left, slot);
-    if a.refusal != 0 {
-        put_refused(rt, a.refusal);
-    }
+    let mut s = s;
+    let dropped = match s.clock(&mut left, slot) {
+        Ok(n) => n,
+        Err(e) => {
+            put_refused(rt, e);
+            0
+        }
+    };
     put(rt, b" now");
-    put_number(rt, a.state.now as u64);
+    put_number(rt, s.now);
     put(rt, b" dropped");
-    put_number(rt, a.number as u64);
-    if a.state.count == 1 {
+    put_number(rt, dropped);
+    if s.count == 1 {
         put(rt, b" kept");
     } else {
         put(rt, b" gone");
@@ -180,7 +182,7 @@ fn put_clocks(
     put(rt, b"\n");
 }
 
-// What a search for three blocks of two slots gives. A refused one finds none.
+// What a search for three blocks of two slots gives.
 fn put_search(
     rt: &(impl Print + Eprint),
     name: &[u8],
@@ -197,40 +199,48 @@ fn put_search(
         wanted: 3,
     };
     let mut list = [0u32; 3];
-    let found = search::search(s, memory, map, q, &mut list);
-    let n = found.number as usize;
     put(rt, name);
-    if found.refusal != 0 {
-        put_refused(rt, found.refusal);
+    match search::search(s, memory, map, q, &mut list) {
+        Ok(n) => put_numbers(rt, &list[..n as usize]),
+        Err(e) => put_refused(rt, e),
     }
-    put_numbers(rt, &list[..n]);
     put(rt, b"\n");
 }
 
 // T's table with its map beside it.
-fn reserve_mapped(memory: &mut [u8], map: &mut [u8], distance: Distance) -> State {
-    let opened = slotmap::open(memory, map, 4500).state;
-    let clocked = slotmap::clock(opened, memory, map, 100).state;
-    slotmap::reserve(clocked, memory, map, request_t(1, 0, distance)).state
+fn reserve_mapped(memory: &mut [u8], map: &mut [u8], distance: Distance) -> Result<State, Refusal> {
+    let mut s = State::default();
+    slotmap::open(&mut s, memory, map, 4500)?;
+    slotmap::clock(&mut s, memory, map, 100)?;
+    slotmap::reserve(&mut s, memory, map, request_t(1, 0, distance))?;
+    Ok(s)
 }
 
 // What a search gives in it, made anew.
-fn put_search_t(rt: &(impl Print + Eprint), name: &[u8], distance: Distance, lo: u32, hi: u32) {
+fn put_search_t(
+    rt: &(impl Print + Eprint),
+    name: &[u8],
+    distance: Distance,
+    lo: u32,
+    hi: u32,
+) -> Result<(), Refusal> {
     let mut memory = [0u8; record::SIZE];
     let mut map = [0u8; 4500];
-    let s = reserve_mapped(&mut memory, &mut map, distance);
+    let s = reserve_mapped(&mut memory, &mut map, distance)?;
     put_search(rt, name, s, &memory, &map, lo, hi);
+    Ok(())
 }
 
-fn put_t(rt: &(impl Print + Eprint)) {
+fn put_t(rt: &(impl Print + Eprint)) -> Result<(), Refusal> {
     let mut memory = [0u8; record::SIZE];
-    let near = reserve_t(&mut memory, 0, Distance::Unknown);
+    let near = reserve_t(&mut memory, 0, Distance::Unknown)?;
     put_last_slot(rt, b"P5", near, &memory);
     put_slots(rt, near, &memory);
     put_clocks(rt, b"P7", near, memory, 7609);
-    put_search_t(rt, b"P8", Distance::Unknown, 105, 111);
-    put_search_t(rt, b"P9", Distance::Range(LIMIT), 105, 111);
-    put_search_t(rt, b"P10", Distance::Unknown, 105, 105);
+    put_search_t(rt, b"P8", Distance::Unknown, 105, 111)?;
+    put_search_t(rt, b"P9", Distance::Range(LIMIT), 105, 111)?;
+    put_search_t(rt, b"P10", Distance::Unknown, 105, 105)?;
+    Ok(())
 }
 
 // ---- P11
@@ -254,55 +264,60 @@ fn put_offsets(rt: &(impl Print + Eprint)) {
 // ---- No. 4
 
 // T with bo 10.
-fn put_offset_t(rt: &(impl Print + Eprint)) {
+fn put_offset_t(rt: &(impl Print + Eprint)) -> Result<(), Refusal> {
     let mut memory = [0u8; record::SIZE];
-    let s = reserve_t(&mut memory, 10, Distance::Unknown);
+    let s = reserve_t(&mut memory, 10, Distance::Unknown)?;
     put(rt, b"bo 10:");
     let held = put_blocks(rt, s, &memory, 100, 12121);
     put(rt, b", slots held:");
-    put_number(rt, held as u64);
+    put_number(rt, held);
     put(rt, b"\n");
     put_last_slot(rt, b"bo 10, last slot:", s, &memory);
     put(rt, b"bo 10, octets:");
-    put_octets(rt, &memory);
+    put_numbers(rt, &memory);
     put(rt, b"\n");
     put_clocks(rt, b"bo 10:", s, memory, 12119);
+    Ok(())
 }
 
 // What a reserve is answered in superframes of 60 slots, at slot 0, and where its blocks lie then.
-fn put_short(rt: &(impl Print + Eprint), name: &[u8], bo: i32) {
+fn put_short(rt: &(impl Print + Eprint), name: &[u8], bo: i32) -> Result<(), Refusal> {
     let mut memory = [0u8; record::SIZE];
-    let opened = State::open(&mut memory, 60).state;
-    let a = opened.reserve(&mut memory, request_blocks(1, 2, 5, bo));
+    let mut s = State::default();
+    s.open(&mut memory, 60)?;
     put(rt, name);
-    if a.refusal != 0 {
-        put_refused(rt, a.refusal);
-    } else {
-        put_blocks(rt, a.state, &memory, 0, 60);
-        put(rt, b", last slot:");
-        put_number(rt, series::last_slot(record::load(&memory, 0), 60));
+    match s.reserve(&mut memory, request_blocks(1, 2, 5, bo)) {
+        Ok(_) => {
+            put_blocks(rt, s, &memory, 0, 60);
+            put(rt, b", last slot:");
+            put_number(rt, series::last_slot(record::load(&memory, 0), 60));
+        }
+        Err(e) => put_refused(rt, e),
     }
     put(rt, b"\n");
+    Ok(())
 }
 
-fn put_offsets_of_blocks(rt: &(impl Print + Eprint)) {
-    put_offset_t(rt);
-    put_short(rt, b"M1 60, bo -62:", -62);
-    put_short(rt, b"M1 60, bo -63:", -63);
+fn put_offsets_of_blocks(rt: &(impl Print + Eprint)) -> Result<(), Refusal> {
+    put_offset_t(rt)?;
+    put_short(rt, b"M1 60, bo -62:", -62)?;
+    put_short(rt, b"M1 60, bo -63:", -63)?;
+    Ok(())
 }
 
 // ---- No. 5
 
 // The map's octets of the slots 104 to 110 around T's first block, and P8 with one of them changed.
-fn put_map(rt: &(impl Print + Eprint)) {
+fn put_map(rt: &(impl Print + Eprint)) -> Result<(), Refusal> {
     let mut memory = [0u8; record::SIZE];
     let mut map = [0u8; 4500];
-    let s = reserve_mapped(&mut memory, &mut map, Distance::Unknown);
+    let s = reserve_mapped(&mut memory, &mut map, Distance::Unknown)?;
     put(rt, b"map, slots 104 to 110:");
-    put_octets(rt, &map[4..11]);
+    put_numbers(rt, &map[4..11]);
     put(rt, b"\n");
     map[5] = 1;
     put_search(rt, b"P8 with a wrong map:", s, &memory, &map, 105, 111);
+    Ok(())
 }
 
 // ---- slips that the marked cases let through, the parameters' defaults, and 000's example
@@ -313,17 +328,19 @@ fn put_d_bits(rt: &(impl Print + Eprint)) {
     put_group(rt, b"d bit 27:", &with(P1, 4, 0x24));
 }
 
-fn put_default(rt: &(impl Print + Eprint), number: u32) {
-    put_number(rt, codec::default_figure(number).number as u64);
+fn put_default(rt: &(impl Print + Eprint), number: u32) -> Result<(), Refusal> {
+    put_number(rt, codec::default_figure(number)?);
+    Ok(())
 }
 
 // The defaults of the parameters, which no call over C gives.
-fn put_defaults(rt: &(impl Print + Eprint)) {
+fn put_defaults(rt: &(impl Print + Eprint)) -> Result<(), Refusal> {
     put(rt, b"defaults:");
-    put_default(rt, 1);
-    put_default(rt, 2);
-    put_default(rt, 3);
+    put_default(rt, 1)?;
+    put_default(rt, 2)?;
+    put_default(rt, 3)?;
     put(rt, b"\n");
+    Ok(())
 }
 
 // What a near station asks for in one superframe.
@@ -341,10 +358,7 @@ fn request_blocks(rate: u32, bs: u32, length: u32, bo: i32) -> Request {
 }
 
 fn is_held(s: State, memory: &[u8], slot: u32) -> bool {
-    match slots::judge(s, memory, slot) {
-        Slot::Free => false,
-        _ => true,
-    }
+    !matches!(slots::judge(s, memory, slot), Slot::Free)
 }
 
 // Where the runs of held slots start. How many slots are held.
@@ -355,81 +369,91 @@ fn put_blocks(rt: &(impl Print + Eprint), s: State, memory: &[u8], from: u32, to
     for slot in from..to {
         let held = is_held(s, memory, slot);
         if held & !was_held {
-            put_number(rt, slot as u64);
+            put_number(rt, slot);
         }
-        if held {
-            n += 1;
-        }
+        n += u32::from(held);
         was_held = held;
     }
     n
 }
 
 // Where M1 is no multiple of the rate R, j*M1/R differs from j*(M1/R).
-fn put_spacing(rt: &(impl Print + Eprint), name: &[u8], m1: u32, rate: u32) {
+fn put_spacing(rt: &(impl Print + Eprint), name: &[u8], m1: u32, rate: u32) -> Result<(), Refusal> {
     let mut memory = [0u8; record::SIZE];
-    let s = reserve_alone(&mut memory, m1, 0, request_blocks(rate, 2, 1, 0));
+    let s = reserve_alone(&mut memory, m1, 0, request_blocks(rate, 2, 1, 0))?;
     put(rt, name);
     put_blocks(rt, s, &memory, 0, m1);
     put(rt, b"\n");
+    Ok(())
 }
 
 // The table that holds T near, and T far of another station.
-fn reserve_both(memory: &mut [u8]) -> State {
-    let near = reserve_t(memory, 0, Distance::Unknown);
-    near.reserve(memory, request_t(2, 0, Distance::Range(LIMIT)))
-        .state
+fn reserve_both(memory: &mut [u8]) -> Result<State, Refusal> {
+    let mut s = reserve_t(memory, 0, Distance::Unknown)?;
+    s.reserve(memory, request_t(2, 0, Distance::Range(LIMIT)))?;
+    Ok(s)
 }
 
 // One far record is not enough for a slot that a near one also holds.
-fn put_near_and_far(rt: &(impl Print + Eprint)) {
+fn put_near_and_far(rt: &(impl Print + Eprint)) -> Result<(), Refusal> {
     let mut memory = [0u8; 2 * record::SIZE];
-    let both = reserve_both(&mut memory);
+    let mut s = reserve_both(&mut memory)?;
     put(rt, b"near and far on one slot:");
-    put_slot(rt, both, &memory, 105);
-    let far = both.wipe(&mut memory, 1).state;
+    put_slot(rt, s, &memory, 105);
+    s.wipe(&mut memory, 1)?;
     put(rt, b", far alone:");
-    put_slot(rt, far, &memory, 105);
+    put_slot(rt, s, &memory, 105);
     put(rt, b"\n");
+    Ok(())
 }
 
 // The numbers of the slots 104 to 110 around T's first block, by one call, in octets that held something else.
-fn put_window(rt: &(impl Print + Eprint), name: &[u8], distance: Distance) {
+fn put_window(rt: &(impl Print + Eprint), name: &[u8], distance: Distance) -> Result<(), Refusal> {
     let mut memory = [0u8; record::SIZE];
-    let s = reserve_t(&mut memory, 0, distance);
+    let s = reserve_t(&mut memory, 0, distance)?;
     let mut octets = [7u8; 7 + 32];
     slots::states(s, &memory, 104, &mut octets);
     put(rt, name);
-    put_octets(rt, &octets[..7]);
+    put_numbers(rt, &octets[..7]);
+    Ok(())
 }
 
-fn put_windows(rt: &(impl Print + Eprint)) {
-    put_window(rt, b"slots 104 to 110, near:", Distance::Unknown);
-    put_window(rt, b", far:", Distance::Range(LIMIT));
+fn put_windows(rt: &(impl Print + Eprint)) -> Result<(), Refusal> {
+    put_window(rt, b"slots 104 to 110, near:", Distance::Unknown)?;
+    put_window(rt, b", far:", Distance::Range(LIMIT))?;
     put(rt, b"\n");
+    Ok(())
 }
 
-fn put_example(rt: &(impl Print + Eprint)) {
+fn put_example(rt: &(impl Print + Eprint)) -> Result<(), Refusal> {
     let mut memory = [0u8; record::SIZE];
-    let s = reserve_alone(&mut memory, 4500, 90, request_blocks(3, 10, 10, 0));
+    let s = reserve_alone(&mut memory, 4500, 90, request_blocks(3, 10, 10, 0))?;
     put(rt, b"000's three blocks of ten slots:");
     let held = put_blocks(rt, s, &memory, 90, 4590);
     put(rt, b", slots held:");
-    put_number(rt, held as u64);
+    put_number(rt, held);
     put(rt, b"\n");
+    Ok(())
+}
+
+// All cases. A refusal where none is expected ends them.
+fn put_all(rt: &(impl Print + Eprint)) -> Result<(), Refusal> {
+    put_readings(rt);
+    put_t(rt)?;
+    put_offsets(rt);
+    put_offsets_of_blocks(rt)?;
+    put_map(rt)?;
+    put_d_bits(rt);
+    put_defaults(rt)?;
+    put_spacing(rt, b"M1 60, rate 7:", 60, 7)?;
+    put_spacing(rt, b"M1 4500, rate 8:", 4500, 8)?;
+    put_near_and_far(rt)?;
+    put_windows(rt)?;
+    put_example(rt)
 }
 
 fn main(rt: HostRuntime) {
-    put_readings(&rt);
-    put_t(&rt);
-    put_offsets(&rt);
-    put_offsets_of_blocks(&rt);
-    put_map(&rt);
-    put_d_bits(&rt);
-    put_defaults(&rt);
-    put_spacing(&rt, b"M1 60, rate 7:", 60, 7);
-    put_spacing(&rt, b"M1 4500, rate 8:", 4500, 8);
-    put_near_and_far(&rt);
-    put_windows(&rt);
-    put_example(&rt);
+    if let Err(e) = put_all(&rt) {
+        put_refused(&rt, e);
+    }
 }

@@ -1,14 +1,16 @@
 -- Laws of little-endian numbers, over the width. Assumes nothing.
 use Prim.Native.Nat.{ℕ, zero, suc, ◌+◌, ◌*◌, ◌/◌, ◌%◌, ◌^◌, ◌<◌, ◌≤◌}
-use mathlib.Core.Path.{◌≡◌, refl, ap, ◌∙◌}
+use mathlib.Core.Path.{◌≡◌, refl, sym, ap, ◌∙◌}
 use mathlib.Core.List.{List, [], ◌∷◌, ◌++◌, append_assoc, append-nil}
 use native.Mathlib.Nat.{add-zero, pow-suc}
 use native.Mathlib.Numerals.{add-one, towards_numerals}
 use native.Mathlib.Omega.{arith}
-use lib.Dec.{lit<}
-use lib.ListN.{length, get_or, set, take, drop, drop_of_length-le}
+use lib.Dec.{leb, lit<}
+use lib.ListN.{length, get_or, get_or-eq_default, set, take, drop, drop_of_length-le}
 use lib.Seq.{sets, length-sets, sets-eq, take_at, drop_at, drop-cons, get_or-drop, length-take-le}
-use borrow.Author.Tests.{le-leb, lt-leb}
+use borrow.Author.Tests.{le-leb, lt-leb, leb-true, leb-false}
+use Rattle.std.specs.Int.{w32, to_le_bytes}
+use Rattle.octets.proofs.Refusals.{by_test}
 use Rattle.octets.specs.Octets.{AreOctets, little, number, number_at, put_at}
 
 -- ---- AreOctets
@@ -61,6 +63,16 @@ little-number (b ∷ bs) h =
     let f : (b + 256 * number bs) % 256 ≡ b = omega arith in
     rw (e, f, little-number bs (λ i. h (suc i)))
 
+-- ---- std's words
+
+-- the octets of a number of 32 bits
+pub little_four : (n : ℕ) → to_le_bytes w32 n ≡ little 4 n
+unfolding little
+little_four n =
+    let a : n / 65536 ≡ n / 256 / 256 = omega arith in
+    let b : n / 16777216 ≡ n / 256 / 256 / 256 = omega arith in
+    rw (a, b)
+
 -- ---- number_at
 
 -- where the octets stand, what they say
@@ -73,10 +85,13 @@ pub number_at_out : (w : ℕ) (m : List ℕ) (at : ℕ) → length m < at + w �
 unfolding number_at
 number_at_out w m at h = rw (lt-leb (at + w) (length m) h)
 
--- one octet says itself
-pub number_at_one : (m : List ℕ) (at : ℕ) → at + 1 ≤ length m → number_at 1 m at ≡ get_or m at 0
+-- one octet says itself, and where there is none it is 0
+pub number_at_one : (m : List ℕ) (at : ℕ) → number_at 1 m at ≡ get_or m at 0
 unfolding number
-number_at_one m at h = number_at_in 1 m at h ∙ rw (drop-cons m at 0 (omega arith)) (omega arith)
+number_at_one m at =
+    by_test (leb (at + 1) (length m))
+    (λ e. let h = leb-true (at + 1) (length m) e in number_at_in 1 m at h ∙ rw (drop-cons m at 0 (omega arith)) (omega arith))
+    (λ e. let h = leb-false (at + 1) (length m) e in number_at_out 1 m at h ∙ sym (get_or-eq_default m 0 {n = at} (omega arith)))
 
 -- over 256, what all but the first of them say
 pub number_at_over : (w : ℕ) (m : List ℕ) (at : ℕ) → at + suc w ≤ length m → get_or m at 0 < 256 → number_at (suc w) m at / 256 ≡ number_at w m (at + 1)
@@ -98,11 +113,6 @@ number_at_four m at h =
 pub put_at_in : (w : ℕ) (m : List ℕ) (at n : ℕ) → at + w ≤ length m → put_at w m at n ≡ sets m at (little w n)
 unfolding put_at
 put_at_in w m at n h = rw (le-leb (at + w) (length m) h)
-
--- else nothing is
-pub put_at_out : (w : ℕ) (m : List ℕ) (at n : ℕ) → length m < at + w → put_at w m at n ≡ m
-unfolding put_at
-put_at_out w m at n h = rw (lt-leb (at + w) (length m) h)
 
 -- lists written one behind the other are one list
 sets_append : (m xs ys : List ℕ) (at : ℕ) → sets (sets m at xs) (at + length xs) ys ≡ sets m at (xs ++ ys)

@@ -1,9 +1,13 @@
--- Laws of `first_of` and `answer`: which refusal a call gets, and what it gives by it; and what a test tells. Assumes nothing.
+-- Laws of `first_of` and `answer`: which refusal a call gets, what it gives by it, and what a result tells of that; and what a test tells.
+-- Assumes nothing.
 use Prim.Native.Nat.{ℕ, zero, suc, ◌≤◌, zero-le}
 use native.Mathlib.Omega.{arith}
-use mathlib.Core.Path.{◌≡◌, refl, sym, ◌∙◌}
+use mathlib.Core.Path.{◌≡◌, refl, sym, ◌∙◌, ap}
 use mathlib.Core.Bool.{Bool, true, false, cond, not, ◌&&◌, ◌||◌, true≢false, false≢true, and-eq-true_iff}
 use mathlib.Core.List.{List, [], ◌∷◌, ◌++◌}
+use Rattle.std.proofs.Common.{Result, Ok, Err}
+use Rattle.refusal.specs.declared.Refusal.{Refusal}
+use Rattle.refusal.specs.Refusals.{Tells}
 use lib.Dec.{ltb, leb, eqb, eqb-suc-zero}
 use borrow.Author.Tests.{eq-eqb, ne_eqb, eqb-false, ltb-false, leb-true, not-true}
 use Rattle.octets.specs.Lists.{every}
@@ -122,6 +126,21 @@ module _ {A : Type 0} (accepted : A) (refused : ℕ → A) where
   unfolding answer
   answer-says said a r zero = a
   answer-says said a r (suc n) = simp (eqb-suc-zero n) (r (suc n))
+
+  -- what a result tells of the refusal and the accepted answer, it tells of what an answer says that says its refusal
+  module _ {V : Type 0} (said : A → ℕ) (value : A → V) (a : said accepted ≡ 0) (k : (n : ℕ) → said (refused n) ≡ n) where
+    pub Tells-answer : (r : Result V Refusal) (n : ℕ) → Tells r n (value accepted) → Tells r (said (answer n accepted refused)) (value (answer n accepted refused))
+    Tells-answer (Ok x) n h =
+        let e = answer_accepted (sym h.0) in
+        (ap said (sym e) ∙ a, h.1 ∙ ap value e)
+    Tells-answer (Err x) n h = answer-says said a k n ∙ h
+
+    -- and the other way round
+    pub answer-Tells : (r : Result V Refusal) (n : ℕ) → Tells r (said (answer n accepted refused)) (value (answer n accepted refused)) → Tells r n (value accepted)
+    answer-Tells (Ok x) n h =
+        let z = sym (answer-says said a k n) ∙ h.0 in
+        (z, h.1 ∙ ap value (sym (answer_accepted (sym z))))
+    answer-Tells (Err x) n h = sym (answer-says said a k n) ∙ h
 
 -- ---- what a test tells
 

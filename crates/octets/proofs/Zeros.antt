@@ -1,26 +1,17 @@
 -- Laws of `zeros`, of a loop that writes zeros from a place on (the octets half-way, and `zero_from` at its end), and of `holds_only`. Assumes nothing.
 use Prim.Native.Nat.{ℕ, zero, suc, ◌+◌, ◌-◌, ◌<◌, ◌≤◌}
 use mathlib.Core.Path.{◌≡◌, refl, ◌∙◌, sym}
-use mathlib.Core.Bool.{true, ◌&&◌, and-false, and-eq-true_iff}
+use mathlib.Core.Bool.{true, and-eq-true_iff}
 use mathlib.Core.List.{List, [], ◌∷◌, ◌++◌, append_assoc, append-nil}
 use native.Mathlib.Numerals.{add-one}
 use native.Mathlib.Omega.{arith}
 use lib.Dec.{eqb}
-use borrow.Author.Tests.{eqb-true, eq-eqb, ne_eqb}
-use Rattle.octets.proofs.Refusals.{by_test}
+use borrow.Author.Tests.{eqb-true}
 use lib.ListN.{length, get_or, take, drop, set, replicate, length-append, length-replicate, replicate-append-replicate, drop_of_length-le, take-append-drop}
 use lib.Seq.{sets, drop-cons, set_at, length-take-le}
 use Rattle.octets.specs.Octets.{zeros, zero_from, holds_only}
 
 -- ---- zeros
-
--- the greater of two is 0 where both are: the right one
-pub greater_right : (a b : ℕ) → a < b → eqb b 0 ≡ (eqb a 0 && eqb b 0)
-greater_right a b h = rw (ne_eqb b 0 (omega arith), and-false)
-
--- or the left one
-pub greater_left : (a b : ℕ) → b ≤ a → eqb a 0 ≡ (eqb a 0 && eqb b 0)
-greater_left a b h = by_test (eqb a 0) (λ e. let z = eqb-true a 0 e in rw (e, eq-eqb b 0 (omega arith))) (λ e. rw e)
 
 -- a run of zeros is all zeros
 pub zeros-replicate : (n : ℕ) → zeros (replicate n 0) ≡ true

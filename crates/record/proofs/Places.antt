@@ -4,12 +4,11 @@ use mathlib.Core.Path.{◌≡◌, refl, sym, ap, ◌∙◌}
 use mathlib.Core.Bool.{Bool, true, false, ◌&&◌, cond}
 use mathlib.Core.List.{List, [], ◌∷◌, ◌++◌, append_assoc, append-nil}
 use native.Mathlib.Nat.{zero-add, add_assoc, add_comm, zero-mul, suc-mul}
-use native.Mathlib.Numerals.{add-one}
 use native.Mathlib.Omega.{arith}
 use borrow.Author.Tests.{ltb-true, ltb-false, lt-ltb, le-ltb}
 use lib.Dec.{ltb}
 use lib.ListN.{length, get_or, take, drop, set, length-append, length-drop, drop_of_length-le}
-use lib.Seq.{take_all, take-suc, take-suc-set, drop_at, take-add, drop-drop, length-take-le, set_out, sets, sets-eq, length-sets}
+use lib.Seq.{drop_at, take-add, drop-drop, length-take-le, set_out, sets, sets-eq, length-sets}
 use Rattle.octets.specs.Octets.{AreOctets, little, number_at, put_at}
 use Rattle.octets.proofs.Octets.{are_octets-drop, number_at_in, put_at_behind}
 use Rattle.octets.proofs.Refusals.{by_test}
@@ -171,15 +170,6 @@ store_promised x m i r h l p =
     (e ∙ sym (stored_at m i r l), ap all_records e ∙ set-all_records m i r h l)
 
 -- ---- writing record i over record k
-
--- octets copied one at a time: one more
-pub copy_next : (l from : List ℕ) (j : ℕ) → j < length l → j < length from → take j l ≡ take j from
-    → take (j + 1) (set l j (get_or from j 0)) ≡ take (j + 1) from
-copy_next l from j h k e = rw (add-one, take-suc-set l j (get_or from j 0) h, take-suc from j 0 k, e)
-
--- all of them
-pub copy_all : (l from : List ℕ) (j : ℕ) → length l ≤ j → length from ≤ j → take j l ≡ take j from → l ≡ from
-copy_all l from j h k e = sym (take_all j l h) ∙ e ∙ take_all j from k
 
 -- with a record among the first n written over, the octets after those stay
 pub rest-copied : (m : List ℕ) (i k n : ℕ) → k < n → rest n (copied m i k) ≡ rest n m

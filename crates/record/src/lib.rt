@@ -1,5 +1,5 @@
 // Records in lent memory, 16 octets each. Nothing above this crate knows how they lie there.
-#![tactic(auto)]
+#![tactic(auto, unfolding(crate::specs::Record::size, crate::specs::Record::whole, crate::specs::Record::capacity, crate::specs::Record::rest, crate::specs::Record::clear_after, crate::specs::Record::clear_between))]
 
 ghost use Rattle.std.specs.Prelude.{◌≡◌, cond, ltb, ◌<◌, ◌≤◌, min, length, get_or, set, take};
 ghost use Rattle.octets.specs.Octets.{zeros};
@@ -11,7 +11,7 @@ pub const SIZE: usize = 16;
 
 // The three octets behind bo.
 #[repr(C)]
-#[derive(Clone, Copy)]
+#[derive(Clone, Copy, Default)]
 pub struct Zeros {
     pub a: u8,
     pub b: u8,
@@ -20,7 +20,7 @@ pub struct Zeros {
 
 // A record of the table; bo is its octet. It is laid out as in C: it crosses to a C host as it is.
 #[repr(C)]
-#[derive(Clone, Copy)]
+#[derive(Clone, Copy, Default)]
 pub struct Rec {
     pub station: u32,
     pub first: u32,
@@ -70,53 +70,6 @@ fn encode_over(s: &mut [u8], r: Rec)
     octets::put_octet(s, 15, r.zeros.c);
 }
 
-// Record i of those that the memory has room for. Its octets are a part of the memory, of a length that the compiler knows.
-fn load_at(memory: &[u8], i: usize) -> Rec
-    requires { i < capacity memory.now }
-    ensures { result ≡ get_or (all_records memory.now) i blank }
-{
-    let a = i * SIZE;
-    let e = a + SIZE;
-    decoded(&memory[a..e])
-}
-
-// Writes r over record i of those that the memory has room for.
-fn store_at(memory: &mut [u8], i: usize, r: Rec)
-    requires { i < capacity memory.old }
-    ensures octets { memory.new ≡ stored memory.old i r }
-    ensures records { all_records memory.new ≡ set (all_records memory.old) i r }
-{
-    let a = i * SIZE;
-    let e = a + SIZE;
-    encode_over(&mut memory[a..e], r);
-}
-
-// The octets of one record, by value.
-fn octets_of(s: &[u8]) -> [u8; SIZE]
-    requires { length s.now ≡ size }
-    ensures { result ≡ s.now }
-{
-    let mut o = [0u8; SIZE];
-    let mut j = 0;
-    while j < SIZE {
-        o[j] = s[j];
-        j += 1;
-    }
-    o
-}
-
-// Writes them over those of another.
-fn octets_over(s: &mut [u8], o: [u8; SIZE])
-    requires { length s.old ≡ size }
-    ensures { s.new ≡ o }
-{
-    let mut j = 0;
-    while j < SIZE {
-        s[j] = o[j];
-        j += 1;
-    }
-}
-
 // Whether a memory is a whole number of records.
 pub fn whole(memory: &[u8]) -> bool
     ensures { result ≡ whole memory.now }
@@ -135,18 +88,14 @@ pub fn capacity(memory: &[u8]) -> usize
 pub fn held_count(memory: &[u8], n: usize) -> usize
     ensures { (result ≡ min n (capacity memory.now)) × (result ≤ capacity memory.now) × (take result (all_records memory.now) ≡ take n (all_records memory.now)) }
 {
-    let all = capacity(memory);
-    if n < all {
-        return n;
-    }
-    all
+    n.min(capacity(memory))
 }
 
 // Whether every octet after the first n records is 0. Where n is above the capacity there is none, and n * SIZE might not fit.
 pub fn is_clear(memory: &[u8], n: usize) -> bool
     ensures { result ≡ zeros (rest n memory.now) }
 {
-    if n <= memory.len() / SIZE {
+    if n <= capacity(memory) {
         return octets::zero_from(memory, n * SIZE);
     }
     true
@@ -156,7 +105,7 @@ pub fn is_clear(memory: &[u8], n: usize) -> bool
 pub fn clear(memory: &mut [u8], n: usize)
     ensures { memory.new ≡ clear_after n memory.old }
 {
-    if n <= memory.len() / SIZE {
+    if n <= capacity(memory) {
         octets::clear_from(memory, n * SIZE);
     }
 }
@@ -165,29 +114,20 @@ pub fn clear(memory: &mut [u8], n: usize)
 pub fn clear_between(memory: &mut [u8], i: usize, n: usize)
     ensures { memory.new ≡ clear_between i n memory.old }
 {
-    if (i <= n) & (n <= memory.len() / SIZE) {
-        let e = n * SIZE;
-        octets::clear_from(&mut memory[..e], i * SIZE);
+    if (i <= n) & (n <= capacity(memory)) {
+        octets::clear_from(&mut memory[..n * SIZE], i * SIZE);
     }
 }
 
-// Record i; past the last, the record of zeros.
+// Record i; past the last, the record of zeros. Its octets are a part of the memory, of a length that the compiler knows.
 pub fn load(memory: &[u8], i: usize) -> Rec
     ensures { result ≡ get_or (all_records memory.now) i blank }
 {
-    if i < memory.len() / SIZE {
-        return load_at(memory, i);
+    if i < capacity(memory) {
+        let a = i * SIZE;
+        return decoded(&memory[a..a + SIZE]);
     }
-    Rec {
-        station: 0,
-        first: 0,
-        rate: 0,
-        superframes: 0,
-        length: 0,
-        far: 0,
-        bo: 0,
-        zeros: Zeros { a: 0, b: 0, c: 0 },
-    }
+    Rec::default()
 }
 
 // Writes r over record i; past the last, nothing is written.
@@ -195,25 +135,23 @@ pub fn store(memory: &mut [u8], i: usize, r: Rec)
     ensures octets { memory.new ≡ stored memory.old i r }
     ensures records { all_records memory.new ≡ set (all_records memory.old) i r }
 {
-    if i < memory.len() / SIZE {
-        store_at(memory, i, r);
+    if i < capacity(memory) {
+        let a = i * SIZE;
+        encode_over(&mut memory[a..a + SIZE], r);
     }
 }
 
-// Writes record i over record k; where one of them is past the last, nothing is written. All octets are read before one is written: so they are
-// moved as one.
+// Writes record i over record k; where one of them is past the last, nothing is written. The octets are moved as one: the compiler knows how many
+// they are.
+#[inline]
 pub fn copy(memory: &mut [u8], i: usize, k: usize)
     ensures octets { memory.new ≡ copied memory.old i k }
     ensures records { all_records memory.new ≡ cond (ltb i (capacity memory.old)) (set (all_records memory.old) k (get_or (all_records memory.old) i blank)) (all_records memory.old) }
 {
-    let all = memory.len() / SIZE;
+    let all = capacity(memory);
     if (i < all) & (k < all) {
         let a = i * SIZE;
-        let e = a + SIZE;
-        let o = octets_of(&memory[a..e]);
-        let b = k * SIZE;
-        let f = b + SIZE;
-        octets_over(&mut memory[b..f], o);
+        memory.copy_within(a..a + SIZE, k * SIZE);
     }
 }
 

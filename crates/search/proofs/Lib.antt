@@ -3,10 +3,9 @@ pub mod Octets
 pub mod Blocks
 pub mod Decided
 pub mod Behind
-pub mod Filled
 pub mod Listed
 pub mod Scanned
-pub mod Asked
+pub mod Refusals
 pub mod First
 pub mod None
 pub mod Window

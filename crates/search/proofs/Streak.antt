@@ -39,11 +39,10 @@ unfolding streak
 streak_next p lo n = rw add-one
 
 -- by the last number
-pub streak_last : (p : ℕ → Bool) (lo n : ℕ) → 0 < n → streak p lo n ≡ cond (p (lo + n - 1)) (streak p lo (n - 1) + 1) 0
+pub streak_last : (p : ℕ → Bool) (lo n : ℕ) → 0 < n → streak p lo n ≡ cond (p (lo + (n - 1))) (streak p lo (n - 1) + 1) 0
 streak_last p lo n h =
     let e : n ≡ n - 1 + 1 = omega arith in
-    let last : lo + (n - 1) ≡ lo + n - 1 = omega arith in
-    ap (streak p lo) e ∙ streak_next p lo (n - 1) ∙ rw last
+    ap (streak p lo) e ∙ streak_next p lo (n - 1)
 
 -- the number before a streak does not pass
 pub streak-stop : (p : ℕ → Bool) (lo n : ℕ) → streak p lo n < n → p (lo + (n - 1 - streak p lo n)) ≡ false

@@ -1,17 +1,21 @@
 -- What the private functions ask and promise: the code's own steps. Nothing that a caller of the crate has to believe.
-use Rattle.std.specs.Prelude.{ℕ, zero, suc, ◌+◌, ◌-◌, ◌≤◌, ◌<◌, ◌≡◌, Bool, cond, List, ◌++◌, ltb, eqb, length as len, take, get_or}
-use Rattle.octets.specs.Lists.{from}
-use Rattle.octets.specs.Octets.{holds_only}
+use Rattle.std.specs.Prelude.{ℕ, zero, suc, ◌+◌, ◌-◌, ◌≤◌, ◌<◌, ◌≡◌, Bool, cond, List, ltb, eqb, get_or}
+use Rattle.sound.specs.Sound.{Channel}
+use Rattle.table.specs.Memory.{table_of}
 use Rattle.search.specs.declared.Query.{Query}
+use Rattle.search.specs.Search.{listed, states_of}
 
 -- what the tests before 21 leave of a query
-pub record WellAsked (q : Query) (places : ℕ) : Type 0 where
+pub record WellAsked (q : Query) : Type 0 where
   pub in_order : q.lo ≤ q.hi
   pub not_late : q.hi ≤ 1_000_000_000
   pub short : q.length ≤ 32
   pub some_wanted : 0 < q.wanted
   pub few : q.wanted ≤ 16
-  pub has_room : q.wanted ≤ places
+
+-- what a search lists of a channel, where it is not refused
+abbrev pub answered : Channel → Query → List ℕ
+answered m q = listed (states_of (table_of m)) q
 
 -- ---- octets of slot states
 
@@ -28,16 +32,7 @@ streak p lo (suc n) = cond (p (lo + n)) (streak p lo n + 1) 0
 abbrev pub bound_by : ℕ → ℕ → ℕ
 bound_by kept most = cond (eqb kept most) 1 2
 
--- ---- the list
-
--- a list of so many places that holds only xs, cut after most: n numbers
-pub record Filled (places most : ℕ) (xs : List ℕ) (n : ℕ) (list : List ℕ) : Type 0 where
-  pub number : n ≡ len (take most xs)
-  pub holds : list ≡ holds_only places (take most xs)
-
--- a list with n numbers and one with m: behind whatever the first held, the numbers from start on
-abbrev pub ListedOn : ℕ → ℕ → ℕ → ℕ → ℕ → List ℕ → List ℕ → Type 0
-ListedOn places most start n m list after = (xs : List ℕ) → Filled places most xs n list → Filled places most (xs ++ from start (m - n)) m after
+-- ---- the starts found
 
 -- the slot behind the block has an octet, at each start from one on but the last below another
 abbrev pub BehindAre : List ℕ → Query → ℕ → ℕ → ℕ → Type 0

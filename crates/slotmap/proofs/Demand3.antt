@@ -5,11 +5,12 @@ use mathlib.Core.Bool.{not}
 use mathlib.Core.List.{List, [], ◌∷◌}
 use lib.Dec.{eqb}
 use lib.ListN.{length as len}
+use Rattle.std.proofs.Common.{Ok}
 use Rattle.octets.specs.Refusals.{answer}
 use Rattle.octets.proofs.Refusals.{answer-refused, answer_elim, first_of-zero}
 use Rattle.codec.specs.Parameters.{m1_row, fits}
 use Rattle.sound.specs.Sound.{Channel, size_fits}
-use Rattle.table.specs.declared.Answer.{Answer}
+use Rattle.table.specs.declared.State.{State}
 use Rattle.table.specs.Table.{Call, reported}
 use Rattle.table.specs.Memory.{table_of, leaves, open_refusal, opened}
 use Rattle.table.proofs.Calls.{call_refusal-sound, refused-leaves}
@@ -17,7 +18,7 @@ use Rattle.trace.specs.Machine.{runs, Settles}
 use Rattle.trace.specs.Sequences.{on_octets}
 use Rattle.trace.proofs.Machine.{runs-good, runs_refined}
 use Rattle.trace.proofs.Demand3.{untraced_refined, wiped_without_trace, made_untraced, sound_opened, sound_kept}
-use Rattle.slotmap.specs.Map.{Mapped, with_map, with_fresh, map_refusal, map_leaves, map_says, map_returned, open_map_refusal, open_map_leaves, open_map_returned, OpenMapGives}
+use Rattle.slotmap.specs.Map.{Mapped, with_map, with_fresh, map_refusal, map_leaves, map_says, open_map_refusal, open_map_leaves, OpenMapGives}
 use Rattle.slotmap.specs.Sequences.{on_map, MapCalled}
 use Rattle.slotmap.specs.Claims.{OnAFreshMap, RefusedLeavesMap, OneMapResult, MapWithoutTrace, RealMapCalls, NeverStale}
 use Rattle.slotmap.proofs.Fresh.{is_fresh-with_fresh}
@@ -46,14 +47,14 @@ unfolding map_says
 refused_leaves_map x c h = (sym (map_leaves-refused x c h), sym (answer-refused (reported (table_of x.channel) c) (λ _. 0) refl h))
 
 pub one_map_result : OneMapResult
-one_map_result x c r q b y p z g h = (g.result ∙ sym h.result, g.octets ∙ sym h.octets, g.left ∙ sym h.left)
+one_map_result x c w v s t b y p z g h =
+    (g.told ∙ sym h.told, g.state ∙ sym h.state, g.octets ∙ sym h.octets, g.left ∙ sym h.left)
 
 -- a call's promise settles what it says and leaves
 settled : Settles on_map MapCalled
-unfolding map_returned
 settled x y c w q =
     let g = q.promised in
-    (q.left ∙ rw (g.result, g.octets, g.left), q.said ∙ rw g.result)
+    (q.left ∙ rw (g.state, g.octets, g.left), g.told)
 
 -- ---- an accepted opening
 
@@ -65,12 +66,12 @@ open_accepted m1 b p o =
     rw (t.0, t.1.0)
 
 -- its promise settles the table and the map that it leaves
-open_settled : (m1 : ℕ) (b p : List ℕ) (o : Answer) (y z : List ℕ) → OpenMapGives m1 b p o y z → o.refusal ≡ 0
-    → (open_map_refusal m1 b p ≡ 0) × (with_map o.state y z ≡ with_fresh (opened m1 b))
-unfolding open_map_returned open_map_leaves answer
-open_settled m1 b p o y z g e =
-    let f : open_map_refusal m1 b p ≡ 0 = sym (ap (λ (u : Answer). u.refusal) g.result) ∙ e in
-    (f, rw (g.result, g.octets, g.left, f))
+open_settled : (m1 : ℕ) (b p : List ℕ) (s : State) (y z : List ℕ) → OpenMapGives m1 b p (Ok tt) s y z
+    → (open_map_refusal m1 b p ≡ 0) × (with_map s y z ≡ with_fresh (opened m1 b))
+unfolding open_map_leaves answer
+open_settled m1 b p s y z g =
+    let f : open_map_refusal m1 b p ≡ 0 = g.told.0 in
+    (f, rw (g.state, g.octets, g.left, f))
 
 -- ---- demand 3
 
@@ -80,8 +81,8 @@ map_without_trace m1 b p o A =
     untraced_refined on_a_fresh_map (opened m1 b) A (sound_opened m1 b a) (wiped_without_trace m1 b a A)
 
 pub real_map_calls : RealMapCalls
-real_map_calls m1 b p o y z g e A =
-    let i = open_settled m1 b p o y z g e in
+real_map_calls m1 b p s y z g A =
+    let i = open_settled m1 b p s y z g in
     rw i.1 (made_untraced on_map settled (with_fresh (opened m1 b)) A (map_without_trace m1 b p i.0 A))
 
 pub never_stale : NeverStale

@@ -3,11 +3,11 @@ use Prim.Native.Nat.{ℕ, zero, suc, ◌+◌, ◌-◌, ◌%◌, ◌≤◌}
 use native.Mathlib.Omega.{arith}
 use mathlib.Core.Path.{◌≡◌, refl, sym, ap, ◌∙◌}
 use mathlib.Core.Bool.{Bool, true, false, ◌&&◌, and_assoc, and-eq-true_iff, true≢false}
-use mathlib.Core.List.{List, [], ◌++◌, append_assoc}
+use mathlib.Core.List.{List, [], ◌++◌}
 use lib.Dec.{eqb, leb}
 use lib.ListN.{length as len, replicate, length-append}
 use lib.Seq.{take_at}
-use borrow.Author.Tests.{eq-eqb, ne_eqb, le-leb}
+use borrow.Author.Tests.{eq-eqb, ne_eqb, eqb-true, le-leb, leb-true}
 use Rattle.octets.specs.Refusals.{within}
 use Rattle.octets.specs.Octets.{same_octets, copied_over, holds_only}
 use Rattle.octets.proofs.SameOctets.{same_octets-true, same_octets-refl}
@@ -89,6 +89,12 @@ sound_m1 m h =
 pub is_fresh-sound : (x : Mapped) → sound x.channel ≡ true → (leb x.channel.m1 15360 && is_fresh x) ≡ is_fresh x
 is_fresh-sound x s = rw (le-leb x.channel.m1 15360 (sound_m1 x.channel s).1)
 
+-- a map that is sized: it has M1 octets, and the superframe is not too long
+pub sized-true : (x : Mapped) → (leb x.channel.m1 15360 && eqb (len x.map) x.channel.m1) ≡ true → (len x.map ≡ x.channel.m1) × (x.channel.m1 ≤ 15360)
+sized-true x h =
+    let p = (and-eq-true_iff (leb x.channel.m1 15360) (eqb (len x.map) x.channel.m1)).0 h in
+    (eqb-true _ _ p.1, leb-true _ _ p.0)
+
 -- where the superframe is not too long the map tells
 pub is_fresh_short : (x : Mapped) → x.channel.m1 ≤ 15360 → is_fresh x ≡ (leb x.channel.m1 15360 && is_fresh x)
 is_fresh_short x h = rw (le-leb x.channel.m1 15360 h)
@@ -113,6 +119,6 @@ copied_over_fresh m p rest e =
     let l : len p ≤ len (fresh_map m ++ rest) = rw length-append (omega (arith, fresh_size m)) in
     copied_over_all (fresh_map m ++ rest) p l ∙ take_at (fresh_map m) rest (len p) (fresh_size m ∙ sym e)
 
--- and so does a window that holds it, whatever comes then
-pub copied_over_window : (m : Channel) (n : ℕ) (p rest : List ℕ) → len p ≡ m.m1 → copied_over (holds_only n (fresh_map m) ++ rest) p ≡ fresh_map m
-copied_over_window m n p rest e = rw append_assoc (copied_over_fresh m p (replicate (n - len (fresh_map m)) 0 ++ rest) e)
+-- and so does a window that holds it
+pub copied_over_window : (m : Channel) (n : ℕ) (p : List ℕ) → len p ≡ m.m1 → copied_over (holds_only n (fresh_map m)) p ≡ fresh_map m
+copied_over_window m n p e = copied_over_fresh m p (replicate (n - len (fresh_map m)) 0) e

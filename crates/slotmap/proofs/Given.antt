@@ -6,18 +6,18 @@ use mathlib.Core.Bool.{Bool, true, false, cond}
 use mathlib.Core.List.{List}
 use lib.ListN.{length as len, replicate}
 use borrow.Author.Tests.{eq-eqb}
+use Rattle.std.proofs.Common.{Result, Ok, Err}
+use Rattle.refusal.specs.declared.Refusal.{Refusal}
+use Rattle.refusal.specs.Refusals.{number_of}
+use Rattle.refusal.proofs.Numbers.{not_zero}
 use Rattle.octets.proofs.Refusals.{answer-refused, answer_elim, answer-map, by_test}
 use Rattle.sound.specs.Sound.{Channel, sound}
-use Rattle.table.specs.declared.Answer.{Answer}
-use Rattle.table.specs.Table.{Call, reported}
-use Rattle.table.specs.Memory.{channel, state_of, table_of, call_refusal, leaves, says, returned, Gives, open_refusal, opened, open_leaves, open_returned, OpenGives}
-use Rattle.table.specs.Steps.{refused_answer}
+use Rattle.table.specs.declared.State.{State}
+use Rattle.table.specs.Table.{Said, Call, reported}
+use Rattle.table.specs.Memory.{channel, state_of, table_of, call_refusal, leaves, says, call_said, Gives, open_refusal, opened, open_leaves, OpenGives}
 use Rattle.table.proofs.Calls.{refused-leaves}
-use Rattle.daylog.specs.declared.LoggedCall.{LoggedCall}
-use Rattle.daylog.specs.declared.LoggedCall.TheVariants.{NoCall}
-use Rattle.daylog.specs.Entries.{call_in, by_call}
-use Rattle.slotmap.specs.Map.{Mapped, fresh_map, is_fresh, with_fresh, map_refusal, map_leaves, map_says, map_returned, MapGives, with_map, open_map_refusal, open_map_leaves, open_map_returned, OpenMapGives, map_entry_says, map_entry_leaves, map_entry_returned}
-use Rattle.slotmap.specs.Steps.{stale_answer}
+use Rattle.slotmap.specs.Map.{Mapped, fresh_map, is_fresh, with_fresh, map_refusal, map_leaves, map_says, MapGives, with_map, open_map_refusal, open_map_leaves, OpenMapGives}
+use Rattle.slotmap.specs.Steps.{stale_refusal}
 use Rattle.slotmap.proofs.Fresh.{fresh_opened}
 
 -- ---- which refusal
@@ -40,27 +40,30 @@ unfolding map_leaves
 map_leaves-refused x c h = answer-refused (with_fresh (leaves x.channel c)) (λ _. x) refl h
 
 -- its number, and nothing changed
-pub refused_gives_map : (x : Mapped) (c : Call) (n : ℕ) → n ≡ map_refusal x c → (n ≡ 0 → ⊥)
-    → MapGives x c (refused_answer n (state_of x.channel)) x.channel.memory x.map
-unfolding map_returned map_says
-refused_gives_map x c n e h =
-    let l = map_leaves-refused x c (λ z. h (e ∙ z)) in
+pub refused_gives_map : (x : Mapped) (c : Call) (e : Refusal) → map_refusal x c ≡ number_of e
+    → MapGives x c (call_said (Err e)) (state_of x.channel) x.channel.memory x.map
+unfolding map_says
+refused_gives_map x c e h =
+    let z = not_zero e in
+    let n : number_of e ≡ 0 → ⊥ = λ k. omega arith in
+    let l = map_leaves-refused x c (λ k. n (sym h ∙ k)) in
     record {
-      result = rw (← l, ← e) (ap (λ k. record { refusal = n; number = k; state = state_of x.channel }) (answer-refused (reported (table_of x.channel) c) (λ _. 0) {n = n} refl h));
+      told = rw h (ap (λ k. record { refusal = number_of e; number = k }) (answer-refused (reported (table_of x.channel) c) (λ _. 0) {n = number_of e} refl n));
+      state = ap (λ (y : Mapped). state_of y.channel) l;
       octets = ap (λ (y : Mapped). y.channel.memory) l;
       left = ap (λ (y : Mapped). y.map) l;
     }
 
--- neither number is 0
-stale_refuses : (b : Bool) → ◌≡◌ {A = ℕ} (cond b 25 11) 0 → ⊥
-stale_refuses true e = omega arith
-stale_refuses false e = omega arith
+-- the number of a refusal whose map isn't fresh
+number_of-stale : (b : Bool) → cond b 25 11 ≡ number_of (stale_refusal b)
+number_of-stale true = refl
+number_of-stale false = refl
 
 -- so where the map isn't fresh, or the table isn't sound
-pub stale_gives : (x : Mapped) (c : Call) {r : Answer} → r ≡ stale_answer (sound x.channel) (state_of x.channel) → (sound x.channel ≡ true → is_fresh x ≡ false)
-    → MapGives x c r x.channel.memory x.map
+pub stale_gives : (x : Mapped) (c : Call) {e : Refusal} → e ≡ stale_refusal (sound x.channel) → (sound x.channel ≡ true → is_fresh x ≡ false)
+    → MapGives x c (call_said (Err e)) (state_of x.channel) x.channel.memory x.map
 stale_gives x c e h =
-    rw e (refused_gives_map x c (cond (sound x.channel) 25 11) (sym (map_refusal_stale x c h)) (stale_refuses (sound x.channel)))
+    rw e (refused_gives_map x c (stale_refusal (sound x.channel)) (map_refusal_stale x c h ∙ number_of-stale (sound x.channel)))
 
 -- ---- a call on a fresh map
 
@@ -81,30 +84,43 @@ module _ (x : Mapped) (c : Call) (fresh : is_fresh x ≡ true) where
       (λ _. refl)
       (λ z. refused-leaves m c (λ e. z (map_refusal_fresh x c fresh ∙ e)))
 
-  -- what the table's call gives, and the map: accepted, the fresh one of what is left; refused, as it was
-  pub fresh_gives : {r : Answer} {b p : List ℕ} → Gives m c r b
-      → (r.refusal ≡ 0 → p ≡ fresh_map (leaves m c)) → ((r.refusal ≡ 0 → ⊥) → p ≡ x.map) → MapGives x c r b p
-  unfolding map_returned returned says map_leaves
-  fresh_gives {r} {b} {p} g accepted refused =
-      let e : r.refusal ≡ map_refusal x c = ap (λ (u : Answer). u.refusal) g.result ∙ sym (map_refusal_fresh x c fresh) in
+  -- the map that a call leaves
+  left_by : {p : List ℕ} → (map_refusal x c ≡ 0 → p ≡ fresh_map (leaves m c)) → ((map_refusal x c ≡ 0 → ⊥) → p ≡ x.map) → p ≡ (map_leaves x c).map
+  unfolding map_leaves
+  left_by {p} accepted refused = answer_elim (with_fresh (leaves m c)) (λ _. x) (λ (y : Mapped). p ≡ y.map) (map_refusal x c) accepted refused
+
+  -- what the table's call gives where it is accepted, with the fresh map of what is left
+  pub fresh_gives : {n : ℕ} {s : State} {b p : List ℕ} → Gives m c (call_said (Ok n)) s b → p ≡ fresh_map (leaves m c) → MapGives x c (call_said (Ok n)) s b p
+  unfolding says
+  fresh_gives g e =
+      let z = ap (λ w. w.refusal) g.told ∙ sym (map_refusal_fresh x c fresh) in
       record {
-        result = g.result ∙ rw (map_says_fresh, map_leaves-channel);
+        told = g.told ∙ sym map_says_fresh;
+        state = g.state ∙ ap state_of (sym map_leaves-channel);
         octets = g.octets ∙ ap (λ (y : Channel). y.memory) (sym map_leaves-channel);
-        left =
-            answer_elim (with_fresh (leaves m c)) (λ _. x) (λ (y : Mapped). p ≡ y.map) (map_refusal x c)
-            (λ z. accepted (e ∙ z))
-            (λ z. refused (λ i. z (sym e ∙ i)));
+        left = left_by (λ _. e) (λ n. absurd (n (sym z)));
       }
 
--- what a call returns and leaves is the table that it leaves
-pub gives_leaves : {m : Channel} {c : Call} {r : Answer} {b : List ℕ} → Gives m c r b → channel r.state b ≡ leaves m c
-unfolding returned
-gives_leaves g = rw (g.result, g.octets)
+  -- and where it is refused, with the map as it was
+  pub fresh_gives-refused : (e : Refusal) {s : State} {b : List ℕ} → Gives m c (call_said (Err e)) s b → MapGives x c (call_said (Err e)) s b x.map
+  unfolding says
+  fresh_gives-refused e g =
+      let z = ap (λ w. w.refusal) g.told ∙ sym (map_refusal_fresh x c fresh) in
+      record {
+        told = g.told ∙ sym map_says_fresh;
+        state = g.state ∙ ap state_of (sym map_leaves-channel);
+        octets = g.octets ∙ ap (λ (y : Channel). y.memory) (sym map_leaves-channel);
+        left = left_by (λ k. absurd (omega (arith, not_zero e, z, k))) (λ _. refl);
+      }
 
--- and its refusal is the call's
-pub gives_refusal : {m : Channel} {c : Call} {r : Answer} {b : List ℕ} → Gives m c r b → r.refusal ≡ call_refusal m c
-unfolding returned says
-gives_refusal g = ap (λ (u : Answer). u.refusal) g.result
+-- what a call leaves is the table that it leaves
+pub gives_leaves : {m : Channel} {c : Call} {w : Said} {s : State} {b : List ℕ} → Gives m c w s b → channel s b ≡ leaves m c
+gives_leaves g = rw (g.state, g.octets)
+
+-- and one that is accepted has no refusal
+pub gives_accepted : {m : Channel} {c : Call} {n : ℕ} {s : State} {b : List ℕ} → Gives m c (call_said (Ok n)) s b → call_refusal m c ≡ 0
+unfolding says
+gives_accepted g = sym (ap (λ w. w.refusal) g.told)
 
 -- ---- open
 
@@ -131,31 +147,12 @@ module _ (m1 : ℕ) (b p : List ℕ) (sized : len p ≡ m1) where
       refused)
 
   -- what the table's opening gives, and that map
-  pub sized_gives : {r : Answer} {y z : List ℕ} → OpenGives m1 b r y
-      → (r.refusal ≡ 0 → z ≡ replicate m1 0) → ((r.refusal ≡ 0 → ⊥) → z ≡ p) → OpenMapGives m1 b p r y z
-  unfolding open_map_returned open_returned
+  pub sized_gives : {r : Result (Unit {0}) Refusal} {s : State} {y z : List ℕ} → OpenGives m1 b r s y
+      → (open_refusal m1 b ≡ 0 → z ≡ replicate m1 0) → ((open_refusal m1 b ≡ 0 → ⊥) → z ≡ p) → OpenMapGives m1 b p r s y z
   sized_gives {r} g accepted refused =
-      let e : r.refusal ≡ open_refusal m1 b = ap (λ (u : Answer). u.refusal) g.result in
       record {
-        result = g.result ∙ rw (open_map_refusal_sized, open_map_leaves-channel);
+        told = rw open_map_refusal_sized g.told;
+        state = g.state ∙ ap state_of open_map_leaves-channel;
         octets = g.octets ∙ ap (λ (u : Channel). u.memory) open_map_leaves-channel;
-        left = open_map_leaves-map (λ n. accepted (e ∙ n)) (λ n. refused (λ i. n (sym e ∙ i)));
+        left = open_map_leaves-map accepted refused;
       }
-
--- ---- a log record
-
-module _ (x : Mapped) (o : List ℕ) where
-  -- on the channel, the map and the log record the step returns r, and leaves the octets b and the map p
-  abbrev pub Steps : Answer → List ℕ → List ℕ → Type 0
-  Steps r b p = (r ≡ map_entry_returned x o) × ((b ≡ (map_entry_leaves x o).channel.memory) × (p ≡ (map_entry_leaves x o).map))
-
-  -- it gives what the call in the log record gives
-  pub call_steps : {e : LoggedCall} {k : Call} {r : Answer} {b p : List ℕ} → call_in o ≡ e
-      → ((A : Type 0) (f : Call → A) (none : A) → by_call e f none ≡ f k) → MapGives x k r b p → Steps r b p
-  unfolding map_entry_returned map_entry_leaves map_entry_says map_returned
-  call_steps asks is g = simp (asks, is) (g.result, (g.octets, g.left))
-
-  -- and 23, all as it was, where there is none
-  pub no_call_steps : call_in o ≡ NoCall → Steps (refused_answer 23 (state_of x.channel)) x.channel.memory x.map
-  unfolding map_entry_returned map_entry_leaves map_entry_says
-  no_call_steps asks = simp asks (refl, (refl, refl))

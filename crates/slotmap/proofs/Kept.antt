@@ -3,10 +3,10 @@ use Prim.Native.Nat.{ℕ, ◌+◌, ◌-◌, ◌≤◌}
 use native.Mathlib.Omega.{arith}
 use mathlib.Core.Path.{◌≡◌, refl, sym, ap, ◌∙◌}
 use mathlib.Core.Bool.{Bool, true, false, not, true≢false}
-use mathlib.Core.List.{List, [], ◌∷◌, ◌++◌, map, append-nil}
+use mathlib.Core.List.{List, [], ◌∷◌, ◌++◌, map}
 use lib.Ieee.{Float}
-use lib.ListN.{length as len, take, drop, replicate, length-drop, take-append-drop}
-use lib.Seq.{drop_at, take-append-le, drop-append-le, length-take-le}
+use lib.ListN.{length as len, take, drop, replicate, length-drop}
+use lib.Seq.{drop_at, take-append-le, drop-append-le}
 use borrow.Author.Tests.{leb-false, not-true}
 use Rattle.octets.specs.Lists.{keep}
 use Rattle.octets.specs.Octets.{holds_only, zero_from, copied_over}
@@ -19,10 +19,11 @@ use Rattle.series.specs.Series.{reserves, last_slot}
 use Rattle.series.proofs.Series.{none_outside}
 use Rattle.sound.specs.Sound.{Channel, records, lasts, sound}
 use Rattle.sound.proofs.Sound.{sound_parts}
-use Rattle.table.specs.declared.Answer.{Answer}
+use Rattle.std.proofs.Common.{Ok}
+use Rattle.table.specs.declared.State.{State}
 use Rattle.table.specs.declared.Request.{Request}
 use Rattle.table.specs.Table.{Table, Call, clock, reserve, distance, wipe, look, is_look, owned_by, set_far, far_octet, new_record, changed}
-use Rattle.table.specs.Memory.{channel, table_of, channel_of, call_refusal, leaves, Gives}
+use Rattle.table.specs.Memory.{channel, table_of, channel_of, call_refusal, leaves, call_said, Gives}
 use Rattle.table.proofs.Calls.{call_refusal_unsound, call_refusal-sound}
 use Rattle.trace.proofs.Kept.{sound-changed}
 use Rattle.trace.proofs.Written.{records-channel_of, sound-table_of}
@@ -31,7 +32,8 @@ use Rattle.slots.proofs.Window.{length-window_states}
 use Rattle.slots.proofs.Parts.{slot_state_number-keep, window_states_agree, window_states_append, window_states-drop, window_parts}
 use Rattle.slotmap.specs.Map.{fresh_map}
 use Rattle.slotmap.proofs.Fresh.{sound_m1, copied_over_window}
-use Rattle.slotmap.proofs.Given.{gives_leaves, gives_refusal}
+use Rattle.slotmap.proofs.Given.{gives_leaves, gives_accepted}
+use Rattle.slotmap.proofs.Window.{window_long}
 
 -- ---- another station's record
 
@@ -138,36 +140,36 @@ wipe_fresh m s z = left_fresh m (wipe s) z refl
 
 module _ (m : Channel) (p : List ℕ) (sized : len p ≡ m.m1) where
   -- a clock that leaves slots of the map: the window from its slot on
-  pub clock_left : (slot by n : ℕ) {r : Answer} {b : List ℕ} → Gives m (clock slot) r b → r.refusal ≡ 0
+  pub clock_left : (slot by n : ℕ) {k : ℕ} {t : State} {b : List ℕ} → Gives m (clock slot) (call_said (Ok k)) t b
       → n ≡ m.m1 + by + 32 → m.now + by ≡ slot → (xs : List ℕ) → xs ≡ holds_only n (window_states m.m1 (records m) m.now (n - 32))
       → take (len p) (drop by xs) ≡ fresh_map (leaves m (clock slot))
-  clock_left slot by n g z size at xs e =
+  clock_left slot by n g size at xs e =
       let room : n - 32 ≡ m.m1 + by = omega arith in
       let w = window_states m.m1 (records m) m.now in
       ap (λ (k : ℕ). take k (drop by xs)) sized
       ∙ ap (λ (ys : List ℕ). take m.m1 (drop by ys)) (e ∙ ap (λ (k : ℕ). holds_only n (w k)) room)
-      ∙ clock_moved m slot by (sym (gives_refusal g) ∙ z) at (replicate (n - len (w (m.m1 + by))) 0)
+      ∙ clock_moved m slot by (gives_accepted g) at (replicate (n - len (w (m.m1 + by))) 0)
 
   -- any other: the states worked out anew
-  pub clock_anew : (slot n : ℕ) {r : Answer} {b : List ℕ} → Gives m (clock slot) r b → r.refusal ≡ 0 → n ≡ m.m1 + 32
-      → (ys : List ℕ) → ys ≡ holds_only n (window_states r.state.m1 (records (channel r.state b)) slot (n - 32))
+  pub clock_anew : (slot n : ℕ) {k : ℕ} {t : State} {b : List ℕ} → Gives m (clock slot) (call_said (Ok k)) t b → n ≡ m.m1 + 32
+      → (ys : List ℕ) → ys ≡ holds_only n (window_states t.m1 (records (channel t b)) slot (n - 32))
       → copied_over ys p ≡ fresh_map (leaves m (clock slot))
   unfolding table_of fresh_map
-  clock_anew slot n g z size ys e =
+  clock_anew slot n g size ys e =
       let l = leaves m (clock slot) in
-      let k = left-numbers m (clock slot) (sym (gives_refusal g) ∙ z) refl in
+      let k = left-numbers m (clock slot) (gives_accepted g) refl in
       let room : n - 32 ≡ m.m1 = omega arith in
-      let f : holds_only n (window_states l.m1 (records l) slot (n - 32)) ≡ holds_only n (fresh_map l) ++ [] =
-      ap (holds_only n) (ap (λ (i : ℕ). window_states l.m1 (records l) slot i) (room ∙ sym k.0) ∙ ap (λ (i : ℕ). window_states l.m1 (records l) i l.m1) (sym k.1)) ∙ sym (append-nil _) in
+      let f : holds_only n (window_states l.m1 (records l) slot (n - 32)) ≡ holds_only n (fresh_map l) =
+      ap (holds_only n) (ap (λ (i : ℕ). window_states l.m1 (records l) slot i) (room ∙ sym k.0) ∙ ap (λ (i : ℕ). window_states l.m1 (records l) i l.m1) (sym k.1)) in
       ap (λ (xs : List ℕ). copied_over xs p) (e ∙ ap (λ (u : Channel). holds_only n (window_states u.m1 (records u) slot (n - 32))) (gives_leaves g) ∙ f)
-      ∙ copied_over_window l n p [] (sized ∙ sym k.0)
+      ∙ copied_over_window l n p (sized ∙ sym k.0)
 
   -- a reserve: the map raised by the record that it added
-  pub reserve_left : (q : Request) {r : Answer} {b : List ℕ} → Gives m (reserve q) r b → r.refusal ≡ 0 → p ≡ fresh_map m
-      → raised r.state.m1 (drop m.count (records (channel r.state b))) r.state.now p ≡ fresh_map (leaves m (reserve q))
+  pub reserve_left : (q : Request) {k : ℕ} {t : State} {b : List ℕ} → Gives m (reserve q) (call_said (Ok k)) t b → p ≡ fresh_map m
+      → raised t.m1 (drop m.count (records (channel t b))) t.now p ≡ fresh_map (leaves m (reserve q))
   unfolding table_of fresh_map
-  reserve_left q g z e =
-      let zero = sym (gives_refusal g) ∙ z in
+  reserve_left q g e =
+      let zero = gives_accepted g in
       let x = new_record m.now q in
       let k = left-numbers m (reserve q) zero refl in
       let added : drop m.count (records (leaves m (reserve q))) ≡ x ∷ [] =
@@ -177,47 +179,45 @@ module _ (m : Channel) (p : List ℕ) (sized : len p ≡ m.m1) where
       ∙ sym (left_fresh m (reserve q) zero refl)
 
   -- and what it leaves lies below 2^32, with a map of no fewer than 32 slots
-  pub reserve_fits : (q : Request) {r : Answer} {b : List ℕ} → Gives m (reserve q) r b → r.refusal ≡ 0 → (32 ≤ len p) × (r.state.now + len p ≤ 4294967295)
+  pub reserve_fits : (q : Request) {k : ℕ} {t : State} {b : List ℕ} → Gives m (reserve q) (call_said (Ok k)) t b → (32 ≤ len p) × (t.now + len p ≤ 4294967295)
   unfolding table_of
-  reserve_fits q g z =
-      let zero = sym (gives_refusal g) ∙ z in
+  reserve_fits q g =
+      let zero = gives_accepted g in
       let h = accepted_sound m (reserve q) zero in
       let k = sound_m1 m h in
       let e = ap (λ (u : Channel). u.now) (gives_leaves g) ∙ (left-numbers m (reserve q) zero refl).1 in
       (omega arith, omega (arith, (sound_parts m h).now_most))
 
-  -- the first octets of a window hold the states by the other stations' records
-  abbrev pub OthersFirst : ℕ → List ℕ → Type 0
-  OthersFirst s w = take (len p + 32) w ≡ holds_only (len p + 32) (window_states m.m1 (keep (λ r. not (owned_by s r)) (records m)) m.now (len p))
+  -- a window holds the states by the other stations' records
+  abbrev pub HasOthers : ℕ → List ℕ → Type 0
+  HasOthers s w = w ≡ holds_only (len p + 32) (window_states m.m1 (keep (λ r. not (owned_by s r)) (records m)) m.now (len p))
 
   -- a distance: they are raised by the station's
-  pub distance_left : (s : ℕ) (d : Distance) (limit : Float) {r : Answer} {b : List ℕ} → Gives m (distance s d limit) r b → r.refusal ≡ 0
-      → (w ys : List ℕ) → len p + 32 ≤ len w → OthersFirst s w
-      → ys ≡ zero_from (len (take (len p + 32) w) - 32) (raised r.state.m1 (keep (owned_by s) (records (channel r.state b))) m.now (take (len p + 32) w))
-      → copied_over (ys ++ drop (len p + 32) w) p ≡ fresh_map (leaves m (distance s d limit))
+  pub distance_left : (s : ℕ) (d : Distance) (limit : Float) {k : ℕ} {t : State} {b : List ℕ} → Gives m (distance s d limit) (call_said (Ok k)) t b
+      → (w ys : List ℕ) → HasOthers s w → ys ≡ zero_from (len w - 32) (raised t.m1 (keep (owned_by s) (records (channel t b))) m.now w)
+      → copied_over ys p ≡ fresh_map (leaves m (distance s d limit))
   unfolding table_of
-  distance_left s d limit {r} {b} g z w ys long e f =
+  distance_left s d limit {k} {t} {b} g w ys e f =
       let c = distance s d limit in
       let n = len p + 32 in
       let l = leaves m c in
-      let zero = sym (gives_refusal g) ∙ z in
+      let zero = gives_accepted g in
+      let others = keep (λ r. not (owned_by s r)) (records m) in
       let room : len p ≡ n - 32 = omega arith in
-      ap (λ (zs : List ℕ). copied_over (zs ++ drop n w) p)
+      ap (λ (zs : List ℕ). copied_over zs p)
       (f
-      ∙ ap (λ (k : ℕ). zero_from (k - 32) (raised r.state.m1 (keep (owned_by s) (records (channel r.state b))) m.now (take n w))) (length-take-le n w long)
-      ∙ ap (λ (u : Channel). zero_from (n - 32) (raised u.m1 (keep (owned_by s) (records u)) m.now (take n w))) (gives_leaves g)
-      ∙ distance_fresh m n (omega arith) s d limit zero (take n w) (e ∙ ap (λ (k : ℕ). holds_only n (window_states m.m1 (keep (λ r. not (owned_by s r)) (records m)) m.now k)) room))
-      ∙ copied_over_window l n p (drop n w) (sized ∙ sym (left-numbers m c zero refl).0)
+      ∙ ap (λ (k : ℕ). zero_from (k - 32) (raised t.m1 (keep (owned_by s) (records (channel t b))) m.now w)) (window_long m.m1 m.now (len p) others w e)
+      ∙ ap (λ (u : Channel). zero_from (n - 32) (raised u.m1 (keep (owned_by s) (records u)) m.now w)) (gives_leaves g)
+      ∙ distance_fresh m n (omega arith) s d limit zero w (e ∙ ap (λ (k : ℕ). holds_only n (window_states m.m1 others m.now k)) room))
+      ∙ copied_over_window l n p (sized ∙ sym (left-numbers m c zero refl).0)
 
   -- a wipe: they are left
-  pub wipe_left : (s : ℕ) {r : Answer} {b : List ℕ} → Gives m (wipe s) r b → r.refusal ≡ 0 → (w : List ℕ) → OthersFirst s w
+  pub wipe_left : (s : ℕ) {k : ℕ} {t : State} {b : List ℕ} → Gives m (wipe s) (call_said (Ok k)) t b → (w : List ℕ) → HasOthers s w
       → copied_over w p ≡ fresh_map (leaves m (wipe s))
   unfolding table_of
-  wipe_left s g z w e =
+  wipe_left s g w e =
       let n = len p + 32 in
-      let l = leaves m (wipe s) in
-      let zero = sym (gives_refusal g) ∙ z in
+      let zero = gives_accepted g in
       let others = window_states m.m1 (keep (λ r. not (owned_by s r)) (records m)) m.now in
-      let f : take n w ≡ holds_only n (fresh_map l) = e ∙ ap (holds_only n) (ap others sized ∙ sym (wipe_fresh m s zero)) in
-      ap (λ (zs : List ℕ). copied_over zs p) (sym (take-append-drop n w) ∙ ap (λ (ys : List ℕ). ys ++ drop n w) f)
-      ∙ copied_over_window l n p (drop n w) (sized ∙ sym (left-numbers m (wipe s) zero refl).0)
+      ap (λ (zs : List ℕ). copied_over zs p) (e ∙ ap (holds_only n) (ap others sized ∙ sym (wipe_fresh m s zero)))
+      ∙ copied_over_window (leaves m (wipe s)) n p (sized ∙ sym (left-numbers m (wipe s) zero refl).0)

@@ -1,25 +1,26 @@
 -- Windows of slot states: wiped, raised in part, moved on, and a map raised in place. Assumes nothing.
-use Prim.Native.Nat.{ℕ, zero, suc, ◌+◌, ◌-◌, ◌<◌, ◌≤◌}
+use Prim.Native.Nat.{ℕ, zero, suc, ◌+◌, ◌-◌, ◌≤◌}
 use native.Mathlib.Omega.{arith}
 use mathlib.Core.Path.{◌≡◌, refl, sym, ap, ◌∙◌}
-use mathlib.Core.Bool.{Bool, true, false, not, and-eq-true_iff}
-use mathlib.Core.List.{List, [], ◌∷◌, ◌++◌, append_assoc, append-nil}
+use mathlib.Core.Bool.{Bool, not, ◌&&◌, and-eq-true_iff}
+use mathlib.Core.List.{List, [], ◌∷◌, ◌++◌, append-nil}
 use lib.Dec.{leb}
-use lib.ListN.{length, get_or, take, drop, set, replicate, length-append, length-take, length-drop, length-replicate, take-append-drop, drop_of_length-le}
-use lib.Seq.{take-suc, take-add, take_all, take_at, take-append-le, drop_at, drop-cons, drop-append-le, set_at, length-take-le}
+use lib.ListN.{length, take, drop, replicate, length-append, length-take, length-drop, length-replicate, take-append-drop, drop_of_length-le}
+use lib.Seq.{take_all, take_at, take-append-le, length-take-le}
 use borrow.Author.Tests.{leb-true}
+use Rattle.std.specs.Prelude.{Some}
+use Rattle.std.proofs.lemmas.Option.{none-some, same_Some}
 use Rattle.octets.specs.Lists.{keep}
 use Rattle.octets.specs.Octets.{zero_from, holds_only, copied_over}
 use Rattle.octets.proofs.Refusals.{by_test}
 use Rattle.octets.proofs.Zeros.{length-holds_only}
 use Rattle.octets.proofs.Copied.{copied_over_all}
-use Rattle.octets.proofs.ToFront.{Moved, moved_all}
 use Rattle.record.specs.declared.Rec.{Rec}
 use Rattle.table.specs.declared.State.{State}
 use Rattle.slots.specs.Window.{window_states, raised}
 use Rattle.slots.proofs.Window.{length-window_states, take-window_states, length-raised, window_room}
 use Rattle.slots.proofs.Parts.{raised_both, window_parts}
-use Rattle.slotmap.specs.Steps.{moves_on, moved_by}
+use Rattle.slotmap.specs.Steps.{moved_by}
 
 -- ---- a wiped window
 
@@ -33,11 +34,12 @@ take-replicate (suc n) (suc m) h = ap (λ (xs : List ℕ). 0 ∷ xs) (take-repli
 wiped_zeros : (w : List ℕ) → w ≡ holds_only (length w) [] → w ≡ replicate (length w) 0
 wiped_zeros w e = let z : length w - 0 ≡ length w = omega arith in e ∙ ap (λ (k : ℕ). replicate k 0) z
 
--- its first octets are a wiped window
-pub part_wiped : (n : ℕ) (w : List ℕ) → w ≡ holds_only (length w) [] → n ≤ length w → take n w ≡ holds_only (length (take n w)) []
-part_wiped n w e h =
-    let l : n ≡ length (take n w) - 0 = omega (arith, length-take-le n w h) in
-    ap (take n) (wiped_zeros w e) ∙ take-replicate n (length w) h ∙ ap (λ (k : ℕ). replicate k 0) l
+-- so many of a window's zeros are a wiped window
+zeros_wiped : (n m : ℕ) → n ≤ m → take {A = ℕ} n (replicate m 0) ≡ holds_only (length (take {A = ℕ} n (replicate m 0))) []
+zeros_wiped n m h =
+    let e = take-replicate n m h in
+    let l : n ≡ length (take {A = ℕ} n (replicate m 0)) - 0 = omega (arith, ap length e, length-replicate {A = ℕ} n 0) in
+    e ∙ ap (λ (k : ℕ). replicate k 0) l
 
 -- raised, and the room behind it made 0, it holds the states
 pub wiped_raised : (m1 : ℕ) (rs : List Rec) (lo : ℕ) (w : List ℕ) → w ≡ holds_only (length w) []
@@ -53,78 +55,38 @@ take_window m1 rs lo n k h =
     take-append-le k (window_states m1 rs lo (n - 32)) _ (rw (length-window_states m1 rs lo (n - 32)) (omega arith))
     ∙ take-window_states m1 rs lo (n - 32) k (omega arith)
 
--- ---- the first octets of a window: n slots and their room
+-- ---- a window of n slots and its room
 
 module _ (m1 lo n : ℕ) where
-  -- the states that they hold are the first octets of the whole
-  pub first_states : (rs : List Rec) (x rest : List ℕ) → x ≡ holds_only (n + 32) (window_states m1 rs lo n) → take n (x ++ rest) ≡ window_states m1 rs lo n
-  first_states rs x rest e =
-      let states = window_states m1 rs lo n in
-      ap (λ (ys : List ℕ). take n (ys ++ rest)) e ∙ ap (take n) (append_assoc states _ rest) ∙ take_at states _ n (length-window_states m1 rs lo n)
+  -- holding states, it is as long as they and the room
+  pub window_long : (rs : List Rec) (w : List ℕ) → w ≡ holds_only (n + 32) (window_states m1 rs lo n) → length w ≡ n + 32
+  window_long rs w e =
+      ap length e ∙ length-holds_only (n + 32) (window_states m1 rs lo n) (omega (arith, length-window_states m1 rs lo n))
 
-  -- and they are the first octets of it
-  pub first_taken : (rs : List Rec) (x rest : List ℕ) → x ≡ holds_only (n + 32) (window_states m1 rs lo n) → take (n + 32) (x ++ rest) ≡ holds_only (n + 32) (window_states m1 rs lo n)
-  first_taken rs x rest e =
-      let states = window_states m1 rs lo n in
-      ap (λ (ys : List ℕ). take (n + 32) (ys ++ rest)) e
-      ∙ take_at (holds_only (n + 32) states) rest (n + 32) (length-holds_only (n + 32) states (omega (arith, length-window_states m1 rs lo n)))
+  -- the first octets of zeros, raised by records, hold their states
+  pub window_raised : (rs : List Rec) (k : ℕ) (x rest : List ℕ) → n + 32 ≤ k → length x ≡ length (take {A = ℕ} (n + 32) (replicate k 0))
+      → x ≡ zero_from (length (take {A = ℕ} (n + 32) (replicate k 0)) - 32) (raised m1 rs lo (take (n + 32) (replicate k 0)))
+      → take (n + 32) (x ++ rest) ≡ holds_only (n + 32) (window_states m1 rs lo n)
+  window_raised rs k x rest h same e =
+      let room : n + 32 - 32 ≡ n = omega arith in
+      let l : length (take {A = ℕ} (n + 32) (replicate k 0)) ≡ n + 32 = length-take-le (n + 32) (replicate k 0) (omega (arith, h, length-replicate {A = ℕ} k 0)) in
+      take_at x rest (n + 32) (same ∙ l)
+      ∙ e
+      ∙ wiped_raised m1 rs lo (take (n + 32) (replicate k 0)) (zeros_wiped (n + 32) k h)
+      ∙ ap (λ (i : ℕ). holds_only i (window_states m1 rs lo (i - 32))) l
+      ∙ ap (λ (i : ℕ). holds_only (n + 32) (window_states m1 rs lo i)) room
 
-  module _ (w x : List ℕ) (long : n + 32 ≤ length w) where
-    -- they are as many as they should be
-    first_long : length (take (n + 32) w) ≡ n + 32
-    first_long = length-take-le (n + 32) w long
-
-    -- wiped, and raised by records, they hold the states
-    pub first_raised : (rs : List Rec) → w ≡ holds_only (length w) [] → x ≡ zero_from (length (take (n + 32) w) - 32) (raised m1 rs lo (take (n + 32) w))
-        → x ≡ holds_only (n + 32) (window_states m1 rs lo n)
-    first_raised rs wiped e =
-        let room : n + 32 - 32 ≡ n = omega arith in
-        e
-        ∙ wiped_raised m1 rs lo (take (n + 32) w) (part_wiped (n + 32) w wiped long)
-        ∙ ap (λ (k : ℕ). holds_only k (window_states m1 rs lo (k - 32))) first_long
-        ∙ ap (λ (k : ℕ). holds_only (n + 32) (window_states m1 rs lo k)) room
-
-    -- holding the states by the records that fail a test, and raised by those that pass, they hold those by all
-    pub first_parts : (p : Rec → Bool) (rs : List Rec) → take (n + 32) w ≡ holds_only (n + 32) (window_states m1 (keep (λ r. not (p r)) rs) lo n)
-        → x ≡ zero_from (length (take (n + 32) w) - 32) (raised m1 (keep p rs) lo (take (n + 32) w)) → x ≡ holds_only (n + 32) (window_states m1 rs lo n)
-    first_parts p rs others e =
-        let room : n + 32 - 32 ≡ n = omega arith in
-        e
-        ∙ ap (λ (k : ℕ). zero_from (k - 32) (raised m1 (keep p rs) lo (take (n + 32) w))) first_long
-        ∙ window_parts m1 p rs lo (n + 32) (take (n + 32) w) (others ∙ ap (λ (k : ℕ). holds_only (n + 32) (window_states m1 (keep (λ r. not (p r)) rs) lo k)) (sym room))
-        ∙ ap (λ (k : ℕ). holds_only (n + 32) (window_states m1 rs lo k)) room
-
--- there are no fewer octets than the first of them
-pub first_most : (n : ℕ) (x rest : List ℕ) → n ≤ length x → n ≤ length (x ++ rest)
-first_most n x rest h = rw length-append (omega arith)
-
--- ---- octets moved down by one place
-
--- all but the last are moved, and the last is written
-pub shifted : {l₀ l : List ℕ} {n : ℕ} (last : ℕ) → Moved l₀ 1 l n → length l₀ ≡ n + 1 → set l n last ≡ drop 1 l₀ ++ (last ∷ [])
-shifted {l₀} {l} {n} last m e =
-    let k : length (drop 1 l₀) ≡ n = length-drop 1 l₀ ∙ omega arith in
-    let back : drop n l₀ ≡ get_or l₀ n 0 ∷ [] =
-    drop-cons l₀ n 0 (omega arith) ∙ ap (λ (ys : List ℕ). get_or l₀ n 0 ∷ ys) (drop_of_length-le l₀ {i = suc n} (omega arith)) in
-    let all : l ≡ drop 1 l₀ ++ (get_or l₀ n 0 ∷ []) = moved_all m ∙ rw (take_all n (drop 1 l₀) (omega arith), back) in
-    ap (λ (ys : List ℕ). set ys n last) all
-    ∙ set_at (drop 1 l₀) (get_or l₀ n 0) [] last n k
-
--- the first n of a window moved down, with the next of it last: they are those from place 1 on
-pub moved_one : (w p : List ℕ) (n : ℕ) → length p ≡ n → 0 < n → n < length w → take n w ≡ p → drop 1 p ++ (get_or w n 0 ∷ []) ≡ take n (drop 1 w)
-moved_one w p n l h k e =
-    let one : suc n ≡ 1 + n = omega arith in
-    let next = get_or w n 0 ∷ [] in
-    sym (drop-append-le 1 p next (omega arith))
-    ∙ ap (drop 1) (sym (take-suc w n 0 k ∙ ap (λ (ys : List ℕ). ys ++ next) e) ∙ ap (λ (i : ℕ). take i w) one ∙ take-add 1 n w)
-    ∙ drop_at (take 1 w) (take n (drop 1 w)) 1 (length-take-le 1 w (omega arith))
-
--- those from any place on, copied over as many
-pub moved-some : (w p : List ℕ) (by : ℕ) → length p + by ≤ length w → copied_over (take (length w - by) (drop by w)) p ≡ take (length p) (drop by w)
-moved-some w p by h =
-    let l : length (drop by w) ≤ length w - by = rw length-drop (omega arith) in
-    let k : length p ≤ length (drop by w) = rw length-drop (omega arith) in
-    ap (λ (ys : List ℕ). copied_over ys p) (take_all (length w - by) (drop by w) l) ∙ copied_over_all (drop by w) p k
+  -- holding the states by the records that fail a test, and raised by those that pass, it begins with those by all
+  pub window_both : (p : Rec → Bool) (rs : List Rec) (w x : List ℕ) → w ≡ holds_only (n + 32) (window_states m1 (keep (λ r. not (p r)) rs) lo n)
+      → x ≡ zero_from (length w - 32) (raised m1 (keep p rs) lo w) → take n x ≡ window_states m1 rs lo n
+  window_both p rs w x others e =
+      let rest = keep (λ r. not (p r)) rs in
+      let room : n ≡ n + 32 - 32 = omega arith in
+      ap (take n)
+      (e
+      ∙ ap (λ (k : ℕ). zero_from (k - 32) (raised m1 (keep p rs) lo w)) (window_long rest w others)
+      ∙ window_parts m1 p rs lo (n + 32) w (others ∙ ap (λ (k : ℕ). holds_only (n + 32) (window_states m1 rest lo k)) room))
+      ∙ take_window m1 rs lo (n + 32) n (omega arith)
 
 -- ---- a map raised in place
 
@@ -187,23 +149,13 @@ module _ (m1 : ℕ) (rs : List Rec) where
         ∙ sym (raised_both m1 rs lo (take most p) (drop most p))
         ∙ ap (raised m1 rs lo) (take-append-drop most p))
 
--- ---- how many slots a clock moves the map by
+-- ---- by how many slots a clock moves the map on
 
--- where it leaves some of it, by so many that it begins at the clock's slot
-pub moved_by_on : (s : State) (slot : ℕ) → moves_on s slot ≡ true → s.now + moved_by s slot ≡ slot
-moved_by_on s slot h =
-    let p = (and-eq-true_iff (leb s.now slot) (leb slot (s.now + s.m1))).0 h in
-    rw h (omega (arith, leb-true s.now slot p.0))
-
--- else by none
-pub moved_by_off : (s : State) (slot : ℕ) → moves_on s slot ≡ false → moved_by s slot ≡ 0
-moved_by_off s slot h = rw h
-
--- never by more than it has
-pub moved_by-≤ : (s : State) (slot : ℕ) → moved_by s slot ≤ s.m1
-moved_by-≤ s slot =
-    by_test (moves_on s slot)
+-- by so many that it begins at the clock's slot
+pub moved_by-some : (s : State) (slot by : ℕ) → moved_by s slot ≡ Some by → s.now + by ≡ slot
+moved_by-some s slot by e =
+    by_test (leb s.now slot && leb slot (s.now + s.m1))
     (λ h.
     let p = (and-eq-true_iff (leb s.now slot) (leb slot (s.now + s.m1))).0 h in
-    omega (arith, moved_by_on s slot h, leb-true slot (s.now + s.m1) p.1))
-    (λ h. omega (arith, moved_by_off s slot h))
+    omega (arith, same_Some by (slot - s.now) (sym e ∙ rw h refl), leb-true s.now slot p.0))
+    (λ h. absurd (none-some by (sym (rw h refl) ∙ e)))

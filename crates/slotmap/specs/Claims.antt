@@ -1,9 +1,9 @@
 -- What is claimed of the map, besides each function's promise. `claims` in src/lib.rt promises all of it.
-use Rattle.std.specs.Prelude.{ℕ, ◌+◌, ◌<◌, ◌≡◌, true, List, length as len, get_or, replicate}
+use Rattle.std.specs.Prelude.{ℕ, ◌+◌, ◌<◌, ◌≡◌, true, List, Ok, length as len, get_or, replicate}
 use Rattle.octets.specs.Refusals.{first_of}
 use Rattle.sound.specs.Sound.{Channel, records, sound}
-use Rattle.table.specs.declared.Answer.{Answer}
-use Rattle.table.specs.Table.{Call, call_tests}
+use Rattle.table.specs.declared.State.{State}
+use Rattle.table.specs.Table.{Said, Call, call_tests}
 use Rattle.table.specs.Memory.{table_of, opened}
 use Rattle.slots.specs.Slots.{slot_state, state_number}
 use Rattle.trace.specs.Machine.{runs, Refines}
@@ -40,10 +40,11 @@ OnAFreshMap = Refines on_map on_octets with_fresh (λ m. sound m ≡ true)
 abbrev pub RefusedLeavesMap : Type 0
 RefusedLeavesMap = (x : Mapped) (c : Call) → ((map_says x c).refusal ≡ 0 → ⊥) → (map_leaves x c ≡ x) × ((map_says x c).number ≡ 0)
 
--- any two results that a call's promise allows are equal: what it returns, the memory and the map at exit
+-- any two results that a call's promise allows are equal: what it says, the state, the memory and the map at exit
 abbrev pub OneMapResult : Type 0
 OneMapResult =
-    (x : Mapped) (c : Call) (r q : Answer) (b y p z : List ℕ) → MapGives x c r b p → MapGives x c q y z → (r ≡ q) × (b ≡ y) × (p ≡ z)
+    (x : Mapped) (c : Call) (w v : Said) (s t : State) (b y p z : List ℕ)
+    → MapGives x c w s b p → MapGives x c v t y z → (w ≡ v) × (s ≡ t) × (b ≡ y) × (p ≡ z)
 
 -- ---- demand 3
 
@@ -52,11 +53,12 @@ abbrev pub MapWithoutTrace : Type 0
 MapWithoutTrace =
     (m1 : ℕ) (b p : List ℕ) → open_map_refusal m1 b p ≡ 0 → (A : ℕ) → WithoutTrace on_map (with_fresh (opened m1 b)) A
 
--- The same over real calls: an opening that returned o and left the octets y and the map z, and calls that gave what the functions promise.
+-- The same over real calls: an opening that was accepted and left the state s, the octets y and the map z, and calls that gave what the functions
+-- promise.
 abbrev pub RealMapCalls : Type 0
 RealMapCalls =
-    (m1 : ℕ) (b p : List ℕ) (o : Answer) (y z : List ℕ) → OpenMapGives m1 b p o y z → o.refusal ≡ 0
-    → (A : ℕ) → MadeWithoutTrace MapCalled (with_map o.state y z) A
+    (m1 : ℕ) (b p : List ℕ) (s : State) (y z : List ℕ) → OpenMapGives m1 b p (Ok tt) s y z
+    → (A : ℕ) → MadeWithoutTrace MapCalled (with_map s y z) A
 
 -- after an accepted opening the table is sound and the map fresh at every call, and a call is refused for its own tests alone: never 11, never 25
 abbrev pub NeverStale : Type 0

@@ -1,11 +1,12 @@
 -- The slot map beside the table, as document 02, No. 5, words it: what each call answers and leaves with it.
-use Rattle.std.specs.Prelude.{ℕ, ◌≡◌, Bool, not, ◌&&◌, List, [], ◌∷◌, ◌++◌, eqb, length as len}
+use Rattle.std.specs.Prelude.{ℕ, ◌≡◌, Bool, not, ◌&&◌, List, [], ◌∷◌, ◌++◌, Result, eqb, length as len}
+use Rattle.refusal.specs.declared.Refusal.{Refusal}
+use Rattle.refusal.specs.Refusals.{Tells}
 use Rattle.octets.specs.Octets.{same_octets}
 use Rattle.octets.specs.Refusals.{first_of, answer}
 use Rattle.codec.specs.Parameters.{m1_row, fits}
 use Rattle.sound.specs.Sound.{Channel, records, size_fits, sound}
 use Rattle.table.specs.declared.State.{State}
-use Rattle.table.specs.declared.Answer.{Answer}
 use Rattle.table.specs.Table.{Said, Call, call_tests, reported}
 use Rattle.table.specs.Memory.{channel, state_of, table_of, leaves, opened}
 use Rattle.slots.specs.Window.{window_states}
@@ -52,13 +53,10 @@ map_leaves x c = answer (map_refusal x c) (with_fresh (leaves x.channel c)) (λ 
 unfoldable pub map_says : Mapped → Call → Said
 map_says x c = record { refusal = map_refusal x c; number = answer (map_refusal x c) (reported (table_of x.channel) c) (λ _. 0) }
 
--- what the functions return: the answer, and the state handed back
-unfoldable pub map_returned : Mapped → Call → Answer
-map_returned x c = record { refusal = (map_says x c).refusal; number = (map_says x c).number; state = state_of (map_leaves x c).channel }
-
--- what each of the functions promises: on the channel and the map x it returns r, and leaves the octets b and the map p
-pub record MapGives (x : Mapped) (c : Call) (r : Answer) (b p : List ℕ) : Type 0 where
-  pub result : r ≡ map_returned x c
+-- what each of the functions promises: on the channel and the map x its result says w, and it leaves the state s, the octets b and the map p
+pub record MapGives (x : Mapped) (c : Call) (w : Said) (s : State) (b p : List ℕ) : Type 0 where
+  pub told : w ≡ map_says x c
+  pub state : s ≡ state_of (map_leaves x c).channel
   pub octets : b ≡ (map_leaves x c).channel.memory
   pub left : p ≡ (map_leaves x c).map
 
@@ -73,14 +71,10 @@ unfoldable pub open_map_leaves : ℕ → List ℕ → List ℕ → Mapped
 open_map_leaves m1 b p =
     answer (open_map_refusal m1 b p) (with_fresh (opened m1 b)) (λ _. with_map (record { m1 = 0; now = 0; count = 0 }) b p)
 
--- what open returns: the refusal, and the state handed back
-unfoldable pub open_map_returned : ℕ → List ℕ → List ℕ → Answer
-open_map_returned m1 b p =
-    record { refusal = open_map_refusal m1 b p; number = 0; state = state_of (open_map_leaves m1 b p).channel }
-
--- what open promises: on the octets b and the map p it returns r, and leaves the octets y and the map z
-pub record OpenMapGives (m1 : ℕ) (b p : List ℕ) (r : Answer) (y z : List ℕ) : Type 0 where
-  pub result : r ≡ open_map_returned m1 b p
+-- what open promises: on the octets b and the map p it returns r, and leaves the state s, the octets y and the map z
+pub record OpenMapGives (m1 : ℕ) (b p : List ℕ) (r : Result (Unit {0}) Refusal) (s : State) (y z : List ℕ) : Type 0 where
+  pub told : Tells r (open_map_refusal m1 b p) tt
+  pub state : s ≡ state_of (open_map_leaves m1 b p).channel
   pub octets : y ≡ (open_map_leaves m1 b p).channel.memory
   pub left : z ≡ (open_map_leaves m1 b p).map
 
@@ -93,8 +87,3 @@ map_entry_says x o = by_call (call_in o) (map_says x) (record { refusal = 23; nu
 -- what it leaves: what the call leaves; a 23 changes nothing
 unfoldable pub map_entry_leaves : Mapped → List ℕ → Mapped
 map_entry_leaves x o = by_call (call_in o) (map_leaves x) x
-
--- what the step returns: the answer, and the state handed back
-unfoldable pub map_entry_returned : Mapped → List ℕ → Answer
-map_entry_returned x o =
-    record { refusal = (map_entry_says x o).refusal; number = (map_entry_says x o).number; state = state_of (map_entry_leaves x o).channel }

@@ -12,7 +12,7 @@ use Rattle.series.specs.Series.{some_below, start, in_block, in_series, has_furt
 use Rattle.series.proofs.Tests.{fails, agree}
 use Rattle.series.proofs.SomeBelow.{some_below_at, some_below_elim}
 use Rattle.slots.specs.declared.Superframes.{Superframes}
-use Rattle.slots.specs.Steps.{holds, superframe_of, held_lifted, Between, left_at, held_left}
+use Rattle.slots.specs.Steps.{superframe_holds, held_lifted, Between, left_at, held_left}
 use Rattle.slots.proofs.Tests.{block_shift}
 use Rattle.slots.proofs.Blocks.{some_below_next, some_below_agree, holds-within}
 
@@ -21,17 +21,17 @@ use Rattle.slots.proofs.Blocks.{some_below_next, some_below_agree, holds-within}
 module _ (m1 : ℕ) (r : Rec) (slot : ℕ) where
   -- its own superframes hold a slot, with 128 added, where its own series has it
   own_lifted : in_series m1 r r.first r.superframes slot
-      ≡ some_below r.superframes (λ k. holds (superframe_of (m1 / r.rate) r (r.first + 128 + k * m1)) (slot + 128))
+      ≡ some_below r.superframes (λ k. superframe_holds (m1 / r.rate) r (r.first + 128 + k * m1) (slot + 128))
   unfolding in_series
   own_lifted =
-      some_below_agree r.superframes (λ k. some_below r.rate (λ j. in_block (start m1 r r.first k j) r.length slot)) (λ k. holds (superframe_of (m1 / r.rate) r (r.first + 128 + k * m1)) (slot + 128)) (λ k _.
+      some_below_agree r.superframes (λ k. some_below r.rate (λ j. in_block (start m1 r r.first k j) r.length slot)) (λ k. superframe_holds (m1 / r.rate) r (r.first + 128 + k * m1) (slot + 128)) (λ k _.
       some_below_agree r.rate (λ j. in_block (start m1 r r.first k j) r.length slot) (λ j. in_block (r.first + 128 + k * m1 + j * (m1 / r.rate)) r.length (slot + 128)) (λ j _.
       let d : 128 + start m1 r r.first k j ≡ r.first + 128 + k * m1 + j * (m1 / r.rate) = omega arith in
       let e : 128 + slot ≡ slot + 128 = omega arith in
       rw (← d, ← e) (block_shift 128 (start m1 r r.first k j) r.length slot)))
 
   -- the further one does where the further series has it
-  further_lifted : in_series m1 r (further_from m1 r) 1 (slot + 128) ≡ holds (superframe_of (m1 / r.rate) r (further_from m1 r)) (slot + 128)
+  further_lifted : in_series m1 r (further_from m1 r) 1 (slot + 128) ≡ superframe_holds (m1 / r.rate) r (further_from m1 r) (slot + 128)
   unfolding in_series some_below
   further_lifted = let e : further_from m1 r + 0 * m1 ≡ further_from m1 r = omega arith in rw e
 
@@ -47,14 +47,14 @@ module _ (spacing : ℕ) (r : Rec) (l : Superframes) where
   pub left-none : (slot : ℕ) → held_left spacing r l l.first slot ≡ false
   left-none slot =
       fails (held_left spacing r l l.first slot)
-      (some_below_elim l.first (λ k. leb l.first k && holds (superframe_of spacing r (left_at l k)) slot) (λ k h e.
-      omega (arith, leb-true l.first k ((and-eq-true_iff (leb l.first k) (holds (superframe_of spacing r (left_at l k)) slot)).0 e).0)))
+      (some_below_elim l.first (λ k. leb l.first k && superframe_holds spacing r (left_at l k) slot) (λ k h e.
+      omega (arith, leb-true l.first k ((and-eq-true_iff (leb l.first k) (superframe_holds spacing r (left_at l k) slot)).0 e).0)))
 
   -- one more
   pub left_next : (k slot : ℕ) → l.first ≤ k
-      → (held_left spacing r l k slot || holds (superframe_of spacing r (left_at l k)) slot) ≡ held_left spacing r l (k + 1) slot
+      → (held_left spacing r l k slot || superframe_holds spacing r (left_at l k) slot) ≡ held_left spacing r l (k + 1) slot
   left_next k slot h =
-      sym (some_below_next k (λ k. leb l.first k && holds (superframe_of spacing r (left_at l k)) slot) ∙ rw (le-leb l.first k h))
+      sym (some_below_next k (λ k. leb l.first k && superframe_holds spacing r (left_at l k) slot) ∙ rw (le-leb l.first k h))
 
 -- ---- superframes that are left in a window from lo up to an end
 
@@ -76,7 +76,7 @@ module _ {m1 : ℕ} {r : Rec} {lo end own further begun first : ℕ} (asked : As
     (slot : ℕ) (l : lo ≤ slot) (h : slot < end) where
   -- a superframe that starts at a slot holds this one
   abbrev hold : ℕ → Bool
-  hold from = holds (superframe_of (m1 / r.rate) r from) slot
+  hold from = superframe_holds (m1 / r.rate) r from slot
 
   -- number k of its own does
   abbrev own_holds : ℕ → Bool
@@ -89,7 +89,7 @@ module _ {m1 : ℕ} {r : Rec} {lo end own further begun first : ℕ} (asked : As
   -- each of its own that does is left
   own_left : (k : ℕ) → k < r.superframes → own_holds k ≡ true → some_below (begun + further) left_holds ≡ true
   own_left k lk e =
-      let w = holds-within (superframe_of (m1 / r.rate) r (r.first + 128 + k * m1)) slot e in
+      let w = holds-within (r.first + 128 + k * m1) (m1 / r.rate) r.length r.rate slot e in
       let d : k * m1 ≤ (r.superframes - 1) * m1 = mul-le-mul_right m1 (omega arith) in
       let all : own ≡ r.superframes = asked.reach ∙ rw (le-leb lo (r.first + 128 + ((r.superframes - 1) * m1 + run_of m1 r)) (omega arith), lt-ltb (r.first + 128) end (omega arith)) in
       let before : k < begun = by_test (ltb k begun) (ltb-true k begun) (λ t. absurd (omega (arith, between.ahead k (ltb-false k begun t) (omega arith)))) in
@@ -100,7 +100,7 @@ module _ {m1 : ℕ} {r : Rec} {lo end own further begun first : ℕ} (asked : As
   further_left : (has_further r && hold (further_from m1 r)) ≡ true → some_below (begun + further) left_holds ≡ true
   further_left t =
       let p = (and-eq-true_iff (has_further r) (hold (further_from m1 r))).0 t in
-      let w = holds-within (superframe_of (m1 / r.rate) r (further_from m1 r)) slot p.1 in
+      let w = holds-within (further_from m1 r) (m1 / r.rate) r.length r.rate slot p.1 in
       let one : further ≡ 1 = asked.more ∙ rw (le-leb lo (further_from m1 r + run_of m1 r) (omega arith), lt-ltb (further_from m1 r) end (omega arith), p.0) in
       some_below_at (begun + further) left_holds begun (omega arith) (rw (le-leb first begun between.most, le-ltb begun begun (omega arith)) p.1)
 

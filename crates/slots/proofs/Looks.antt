@@ -5,10 +5,8 @@ use mathlib.Core.Bool.{true}
 use Rattle.octets.specs.Refusals.{answer}
 use Rattle.octets.proofs.Refusals.{by_test}
 use Rattle.sound.specs.Sound.{Channel, sound}
-use Rattle.slots.specs.declared.SlotAnswer.{SlotAnswer}
-use Rattle.slots.specs.declared.SlotAnswer.TheVariants.{Is, Refused}
 use Rattle.table.specs.Memory.{table_of}
-use Rattle.slots.specs.Slots.{slot_answer, slot_said, slot_on, slot_look}
+use Rattle.slots.specs.Slots.{SlotAnswer, Is, Refused, slot_answer, slot_said, slot_on, slot_look}
 use Rattle.table.proofs.Looks.{says-look, says-look_unsound}
 use Rattle.slots.specs.Claims.{SlotStateLooks}
 

@@ -8,7 +8,7 @@ use lib.Dec.{ltb, eqb}
 use lib.ListN.{length, get_or, set}
 use lib.Seq.{get_or-set_same, get_or-set_other}
 use borrow.Author.Tests.{eqb-true, eqb-false, ltb-true, ltb-false}
-use Rattle.slots.specs.Steps.{mark_of, MarkedWhere}
+use Rattle.slots.specs.Steps.{MarkedWhere}
 
 -- within fewer octets
 pub marked_within : (n : ℕ) {m mark : ℕ} {p : ℕ → Bool} {xs ys : List ℕ} → MarkedWhere m mark p xs ys → n ≤ m → MarkedWhere n mark p xs ys
@@ -49,14 +49,6 @@ marked_set {mark} {p} q {xs} {ys} i w m e l h f g = record { at = λ k n. go k n
     go : (k : ℕ) → k < length xs → (t : Bool) → eqb k i ≡ t → get_or (set ys i (max (get_or ys i 0) w)) k 0 ≡ cond (q k) (max (get_or xs k 0) mark) (get_or xs k 0)
     go k n true d = rw (eqb-true k i d) (get_or-set_same ys i (max (get_or ys i 0) w) 0 (omega arith) ∙ same)
     go k n false d = get_or-set_other ys i k (max (get_or ys i 0) w) 0 (eqb-false k i d) ∙ rw (← f k (eqb-false k i d)) (m.at k n)
-
--- no mark is above 2
-pub mark-≤ : (far : ℕ) → mark_of far ≤ 2
-mark-≤ far = go (eqb far 1)
-  where
-    go : (b : Bool) → cond b 1 2 ≤ 2
-    go true = omega arith
-    go false = omega arith
 
 -- three for each slot of a block, less one and three for each slot before a place: no less than a mark in the block, 0 behind it
 pub mark_by-place : (mark length d : ℕ) → mark ≤ 2 → min mark (length * 3 - (d * 3 + 1)) ≡ cond (ltb d length) mark 0

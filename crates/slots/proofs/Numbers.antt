@@ -85,8 +85,3 @@ marked_then false x mark s = omega arith
 pub marked-≥ : (b : Bool) (x mark : ℕ) → x ≤ cond b (max x mark) x
 marked-≥ true x mark = omega arith
 marked-≥ false x mark = omega arith
-
--- and leaves one that is as high
-pub marked_same : (b : Bool) (x mark : ℕ) → mark ≤ x → x ≡ cond b (max x mark) x
-marked_same true x mark h = omega arith
-marked_same false x mark h = refl

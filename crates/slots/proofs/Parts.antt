@@ -118,19 +118,8 @@ module _ (m1 : ℕ) where
       ap (take k) (raised_both rs lo xs room) ∙ take_at (raised m1 rs lo xs) (raised m1 rs (lo + length xs) room) k l in
       rw (front, all, l)
 
-  -- a window with room keeps its length
-  pub length_window : (rs : List Rec) (lo n : ℕ) → length (holds_only n (window_states m1 rs lo (n - 32))) ≡ n
-  length_window rs lo n = length-holds_only n (window_states m1 rs lo (n - 32)) (omega (arith, length-window_states m1 rs lo (n - 32)))
-
-  -- a window with room that holds states, raised by more records, and its room made 0: it holds the states by both
-  pub window_append : (rs more : List Rec) (lo n : ℕ) (xs : List ℕ) → xs ≡ holds_only n (window_states m1 rs lo (n - 32))
-      → zero_from (n - 32) (raised m1 more lo xs) ≡ holds_only n (window_states m1 (rs ++ more) lo (n - 32))
-  window_append rs more lo n xs e =
-      ap (λ (ys : List ℕ). zero_from (n - 32) (raised m1 more lo ys)) e
-      ∙ room_raised more lo n (n - 32) (window_states m1 rs lo (n - 32)) (length-window_states m1 rs lo (n - 32)) (omega arith)
-      ∙ ap (holds_only n) (window_states_append rs more lo (n - 32))
-
-  -- one that holds the states by the records that fail a test, raised by those that pass: it holds the states by all
+  -- a window with room that holds the states by the records that fail a test, raised by those that pass, and its room made 0: it holds the states by
+  -- all
   pub window_parts : (p : Rec → Bool) (rs : List Rec) (lo n : ℕ) (xs : List ℕ) → xs ≡ holds_only n (window_states m1 (keep (λ r. not (p r)) rs) lo (n - 32))
       → zero_from (n - 32) (raised m1 (keep p rs) lo xs) ≡ holds_only n (window_states m1 rs lo (n - 32))
   window_parts p rs lo n xs e =

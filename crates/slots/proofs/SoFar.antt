@@ -1,7 +1,7 @@
 -- What a window's octets are once some of the records have marked them: where the loop over all begins, goes on and ends. Assumes nothing.
-use Prim.Native.Nat.{ℕ, ◌+◌, ◌<◌, ◌≤◌, max}
+use Prim.Native.Nat.{ℕ, ◌+◌, ◌<◌, ◌≤◌, min, max}
 use native.Mathlib.Omega.{arith}
-use mathlib.Core.Path.{◌≡◌, refl, sym, ap, ◌∙◌}
+use mathlib.Core.Path.{◌≡◌, sym, ap, ◌∙◌}
 use mathlib.Core.Bool.{Bool}
 use mathlib.Core.List.{List, ◌++◌}
 use lib.Dec.{ltb}
@@ -28,6 +28,13 @@ records_from_parts i k n m h l f =
     let short : length (take k all) ≡ k = length-take-le k all (rw length-all_records (omega arith)) in
     ap (drop i) e ∙ drop-append-le i (take k all) (drop k (take n all)) (rw short h)
 
+-- from the end of them on there is none, as from any place behind it
+records_from_past : (i n : ℕ) (m : List ℕ) → records_from (min i n) n m ≡ records_from i n m
+records_from_past i n m =
+    by_test (ltb i n)
+    (λ t. let e : min i n ≡ i = omega (arith, ltb-true i n t) in rw e)
+    (λ t. let e : min i n ≡ n = omega (arith, ltb-false i n t) in rw (e, to_come-none n n m (omega arith), to_come-none i n m (ltb-false i n t)))
+
 -- of octets xs the octets ys are left once the records from a place up to i that pass a test have marked the first n of them: with those to
 -- come each is raised to the same. So many of them, from the first on, are taken, and so many are not free
 pub record SoFar (n m1 first from held : ℕ) (p : Rec → Bool) (memory xs ys : List ℕ) (i taken reserved : ℕ) : Type 0 where
@@ -39,41 +46,27 @@ pub record SoFar (n m1 first from held : ℕ) (p : Rec → Bool) (memory xs ys :
   pub to_come_lem : (j : ℕ) → j < n
       → max (get_or xs j 0) (slot_state_number m1 (keep p (records_from from held memory)) (first + j)) ≡ max (get_or ys j 0) (slot_state_number m1 (keep p (records_from i held memory)) (first + j))
 
--- slots that are taken are not free: so many as the larger of two numbers are not
-pub reserved_too : {taken : ℕ} {xs : List ℕ} (reserved : ℕ) {k : ℕ} → AtLeast taken 2 xs → AtLeast reserved 1 xs → k ≡ max taken reserved → AtLeast k 1 xs
-reserved_too {taken} {xs} reserved {k} t r e = record { at = λ j l. by_test (ltb j taken) (λ b. omega (arith, t.at j (ltb-true j taken b))) (λ b. r.at j (omega (arith, ltb-false j taken b))) }
-
 module _ {n m1 first from held : ℕ} {p : Rec → Bool} {memory xs : List ℕ} where
-  -- before the first record
-  pub so_far-none : SoFar n m1 first from held p memory xs xs from 0 0
-  so_far-none =
-      record {
-        same = refl;
-        taken-≤ = omega arith;
-        reserved-≤ = omega arith;
-        taken_all = record { at = λ j l. absurd (omega arith) };
-        reserved_all = record { at = λ j l. absurd (omega arith) };
-        to_come_lem = λ j l. refl;
-      }
-
   module _ {ys : List ℕ} {i taken reserved : ℕ} (s : SoFar n m1 first from held p memory xs ys i taken reserved) where
     -- some records more
-    pub so_far_next : (k : ℕ) {zs : List ℕ} → held ≤ capacity memory → i ≤ k → k ≤ held → length zs ≡ length ys
-        → Raised n m1 (keep p (records_from i k memory)) first ys zs → SoFar n m1 first from held p memory xs zs k taken reserved
-    so_far_next k f h l e raised =
+    pub so_far_next : (k next : ℕ) {zs : List ℕ} → held ≤ capacity memory → next ≡ min k held → i ≤ next → length zs ≡ length ys
+        → Raised n m1 (keep p (records_from i next memory)) first ys zs → SoFar n m1 first from held p memory xs zs k taken reserved
+    so_far_next k next f e h same raised =
         record {
-          same = e ∙ s.same;
+          same = same ∙ s.same;
           taken-≤ = s.taken-≤;
           reserved-≤ = s.reserved-≤;
           taken_all = record { at = λ j b. rw (raised.at j (omega (arith, s.taken-≤))) (omega (arith, s.taken_all.at j b)) };
           reserved_all = record { at = λ j b. rw (raised.at j (omega (arith, s.reserved-≤))) (omega (arith, s.reserved_all.at j b)) };
           to_come_lem = λ j b.
+              let later : records_from next held memory ≡ records_from k held memory = rw e (records_from_past k held memory) in
               s.to_come_lem j b
               ∙ rw (
-                records_from_parts i k held memory h l f,
-                keep_append p (records_from i k memory) (records_from k held memory),
-                number_append m1 (first + j) (keep p (records_from i k memory)) (keep p (records_from k held memory)),
+                records_from_parts i next held memory h (omega (arith, e)) f,
+                keep_append p (records_from i next memory) (records_from next held memory),
+                number_append m1 (first + j) (keep p (records_from i next memory)) (keep p (records_from next held memory)),
                 raised.at j b,
+                ← later,
               )
               (omega arith);
         }

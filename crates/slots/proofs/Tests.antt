@@ -1,18 +1,24 @@
 -- Tests that agree. Assumes nothing.
-use Prim.Native.Nat.{ℕ, ◌+◌, ◌-◌, ◌<◌, ◌≤◌, min, max}
+use Prim.Native.Nat.{ℕ, ◌+◌, ◌-◌, ◌<◌, ◌≤◌, min}
 use native.Mathlib.Omega.{arith}
 use mathlib.Core.Path.{◌≡◌, refl, sym}
-use mathlib.Core.Bool.{Bool, true, false, ◌&&◌, ◌||◌, and-true, and-false}
+use mathlib.Core.Bool.{Bool, true, false, cond, ◌&&◌, ◌||◌, and-true, and-false}
+use mir.Val.{bool_byte}
 use lib.Dec.{leb, ltb}
 use borrow.Author.Tests.{leb-true, leb-false, ltb-true, ltb-false, le-leb, lt-ltb, le-ltb}
 use Rattle.series.specs.Series.{in_block}
 use Rattle.series.proofs.Tests.{agree, ltb-same}
 use Rattle.slots.specs.Steps.{from_up_to}
 
--- a test that passes where another does adds nothing to it
-pub and-within : (a b : Bool) → (b ≡ true → a ≡ true) → (a && b) ≡ b
-and-within a true f = rw (f refl)
-and-within a false f = and-false a
+-- a test as a number
+pub bit-cond : (b : Bool) → bool_byte b ≡ cond b 1 0
+bit-cond true = refl
+bit-cond false = refl
+
+-- is 1 at most
+pub bit-≤ : (b : Bool) → bool_byte b ≤ 1
+bit-≤ true = omega arith
+bit-≤ false = omega arith
 
 -- two orders that say the same
 leb-same : (a b c d : ℕ) → (a ≤ b → c ≤ d) → (c ≤ d → a ≤ b) → leb a b ≡ leb c d
@@ -60,38 +66,6 @@ block_join a l b m slot h k e = go (leb a slot) (ltb slot (a + l)) (leb b slot) 
     go true false false s e₁ e₂ e₃ e₄ = absurd (omega (arith, ltb-false slot (a + l) e₂, leb-false b slot e₃))
     go false q true s e₁ e₂ e₃ e₄ = absurd (omega (arith, leb-false a slot e₁, leb-true b slot e₃))
     go false q false s e₁ e₂ e₃ e₄ = refl
-
--- ---- a loop along the places from one on
-
-module _ (from : ℕ) where
-  -- at its start
-  pub from_up_to-none : (k : ℕ) → from_up_to from from k ≡ false
-  from_up_to-none k = go (leb from k) refl
-    where
-      go : (t : Bool) → leb from k ≡ t → (t && ltb k from) ≡ false
-      go true e = le-ltb k from (leb-true from k e)
-      go false e = refl
-
-  module _ (i : ℕ) (l : from ≤ i) where
-    -- the place that is next
-    pub from_up_to_at : from_up_to from i i ≡ false
-    from_up_to_at = rw (le-ltb i i (omega arith)) (and-false (leb from i))
-
-    -- is the last one then
-    pub from_up_to_in : from_up_to from (i + 1) i ≡ true
-    from_up_to_in = rw (le-leb from i l, lt-ltb i (i + 1) (omega arith))
-
-    -- and no other changes
-    pub from_up_to-other : (k : ℕ) → (k ≡ i → ⊥) → from_up_to from i k ≡ from_up_to from (i + 1) k
-    from_up_to-other k d = rw (ltb-same k i k (i + 1) (λ h. omega arith) (λ h. omega arith))
-
-    -- at its end
-    pub from_up_to_all : (to k : ℕ) → to ≤ i → i ≤ max from to → from_up_to from i k ≡ from_up_to from to k
-    from_up_to_all to k h m = go (leb from k) refl
-      where
-        go : (t : Bool) → leb from k ≡ t → (t && ltb k i) ≡ (t && ltb k to)
-        go true e = let f = leb-true from k e in ltb-same k i k to (λ g. omega arith) (λ g. omega arith)
-        go false e = refl
 
 -- ---- a loop along a block's places
 

@@ -1,5 +1,7 @@
 -- A slot's state, as the stored series say.
-use Rattle.std.specs.Prelude.{ℕ, Bool, cond, not, List, [], ◌∷◌, eqb}
+use Rattle.std.specs.Prelude.{ℕ, Bool, cond, not, List, [], ◌∷◌, Result, Ok, Err, eqb}
+use Rattle.refusal.specs.declared.Refusal.{Refusal}
+use Rattle.refusal.specs.Refusals.{number_of}
 use Rattle.octets.specs.Lists.{keep, every}
 use Rattle.octets.specs.Refusals.{first_of, answer}
 use Rattle.record.specs.declared.Rec.{Rec}
@@ -7,8 +9,6 @@ use Rattle.series.specs.Series.{reserves}
 use Rattle.sound.specs.Sound.{Channel, records, sound}
 use Rattle.slots.specs.declared.Slot.{Slot}
 use Rattle.slots.specs.declared.Slot.TheVariants.{Free, Reusable, Taken}
-use Rattle.slots.specs.declared.SlotAnswer.{SlotAnswer}
-use Rattle.slots.specs.declared.SlotAnswer.TheVariants.{Is, Refused}
 use Rattle.table.specs.Table.{Table, Said, time_tests}
 use Rattle.table.specs.Memory.{table_of}
 
@@ -33,9 +33,19 @@ slot_state m1 rs slot = state_by (holders m1 rs slot)
 abbrev pub slot_refusal : Channel → ℕ → ℕ
 slot_refusal m slot = first_of ((11, not (sound m)) ∷ time_tests (table_of m) slot)
 
--- what it gives: the state; refused, its number alone
+-- what a slot state gives: the state; refused, its number alone
+pub data SlotAnswer : Type 0 where
+  Is : Slot → SlotAnswer
+  Refused : ℕ → SlotAnswer
+
+-- what one gives of a channel
 unfoldable pub slot_answer : Channel → ℕ → SlotAnswer
 slot_answer m slot = answer (slot_refusal m slot) (Is (slot_state m.m1 (records m) slot)) Refused
+
+-- what a result gives
+abbrev pub slot_given : Result Slot Refusal → SlotAnswer
+slot_given (Ok x) = Is x
+slot_given (Err e) = Refused (number_of e)
 
 -- a state's number: 0 free, 1 reusable, 2 taken
 abbrev pub state_number : Slot → ℕ

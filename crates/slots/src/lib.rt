@@ -1,33 +1,41 @@
 // The state of a slot by the records of a table, and the states of the slots of a window, worked out record by record.
 #![tactic(auto)]
 
-ghost use Rattle.std.specs.Prelude.{◌≡◌, true, cond, not, ◌&&◌, ℕ, ◌+◌, ◌-◌, ◌*◌, ◌/◌, ◌≤◌, ◌<◌, min, max, leb, ltb, length as len, drop};
+ghost use Rattle.std.specs.Prelude.{◌≡◌, true, ◌&&◌, ℕ, ◌+◌, ◌-◌, ◌*◌, ◌/◌, ◌≤◌, ◌<◌, leb, ltb, length as len, drop};
+ghost use Rattle.octets.specs.Lists.{keep};
 ghost use Rattle.octets.specs.Octets.{zero_from, holds_only};
 ghost use Rattle.record.specs.Record.{capacity};
 ghost use Rattle.series.specs.Series.{in_block, reserves};
 ghost use Rattle.sound.specs.Sound.{records};
 ghost use Rattle.table.specs.Memory.{channel};
-ghost use Rattle.slots.specs.Slots.{slot_state, slot_answer};
+ghost use Rattle.slots.specs.Slots.{state_number, slot_state, slot_answer, slot_given};
 ghost use Rattle.slots.specs.Window.{window_states, window_slots, raised, part_of};
-ghost use Rattle.slots.specs.Steps.{holds_more, mark_of, first_hold, holds, holds_before, after, Few, Between, held_left, held_lifted, records_from, left_out, chosen, begins_at, asks_about, without_own, Small, Skips, Left, MarkedWhere, from_up_to, WindowFits, Raised, AtLeast};
+ghost use Rattle.slots.specs.Steps.{holds_more, mark_of, holds, holds_between, Few, Between, held_left, held_lifted, records_from, begins_at, takes, Apart, Starts, BegunBlock, MarkedWhere, MarkedSlots, from_up_to, WindowFits, Raised, AtLeast};
 ghost use Rattle.slots.specs.Claims.{Claims};
 
+mod block_series;
+
+use block_series::Series;
 use record::Rec;
+use refusal::Refusal;
+use std::hint::select_unpredictable;
 use table::State;
 
 // A slot's state.
-#[derive(Clone, Copy)]
+#[derive(Clone, Copy, Debug, PartialEq, Eq)]
 pub enum Slot {
-    Free,
-    Reusable,
-    Taken,
+    Free = 0,
+    Reusable = 1,
+    Taken = 2,
 }
 
-// What a slot state gives: the state; refused, its number alone.
-#[derive(Clone, Copy)]
-pub enum SlotAnswer {
-    Is(Slot),
-    Refused(u32),
+// The number of a state, which `as` reads off its case.
+impl From<Slot> for u32 {
+    ghost from_gives = { λ x n. n ≡ state_number x };
+
+    fn from(x: Slot) -> u32 {
+        x as u32
+    }
 }
 
 // Some of a table's records: all, those from a place on, those of a station, those of the other stations.
@@ -39,13 +47,46 @@ pub enum Part {
     Others(u32),
 }
 
-// Blocks of so many slots, one after the other at a spacing.
+impl Part {
+    // The place that it begins at.
+    fn begins_at(self) -> usize
+        ensures { result ≡ begins_at self }
+    {
+        match self {
+            Part::From(place) => place as usize,
+            _ => 0,
+        }
+    }
+
+    // Whether it has a record that stands where it begins or behind that.
+    fn takes(self, r: Rec) -> bool
+        ensures { result ≡ takes self r }
+    {
+        match self {
+            Part::Own(station) => r.station == station,
+            Part::Others(station) => r.station != station,
+            _ => true,
+        }
+    }
+}
+
+// A mark: 1 far, 2 near.
 #[derive(Clone, Copy)]
-struct Series {
-    start: u64,
-    spacing: u64,
-    blocks: u64,
-    length: u64,
+struct Mark {
+    octet: u8,
+    ghost small: { octet ≤ 2 },
+}
+
+impl Mark {
+    // That of a record.
+    fn of(far: u8) -> Self
+        ensures { result.octet ≡ mark_of far }
+    {
+        if far == 1 {
+            return Mark { octet: 1 };
+        }
+        Mark { octet: 2 }
+    }
 }
 
 // Superframes of a record's blocks, with 128 added to their slots: of its own, M1 slots each and the first from `from` on, those from `first` up to
@@ -53,18 +94,18 @@ struct Series {
 #[derive(Clone, Copy)]
 struct Superframes {
     from: u64,
-    m1: u64,
+    m1: u32,
     next: u64,
-    first: u64,
-    own: u64,
-    all: u64,
+    first: u32,
+    own: u32,
+    all: u32,
 }
 
 // The first of some superframes, and the first behind them.
 #[derive(Clone, Copy)]
 struct Bounds {
-    first: u64,
-    behind: u64,
+    first: u32,
+    behind: u32,
 }
 
 // ---- the slot state
@@ -86,8 +127,7 @@ pub fn judge(s: State, memory: &[u8], slot: u32) -> Slot
 {
     let held = record::held_count(memory, s.count as usize);
     let mut any = false;
-    let mut i = 0;
-    while i < held {
+    for i in 0..held {
         let r = record::load(memory, i);
         let holds = holds_more(r, s.m1, slot, any);
         let near = r.far != 1;
@@ -95,7 +135,6 @@ pub fn judge(s: State, memory: &[u8], slot: u32) -> Slot
             return Slot::Taken;
         }
         any = any | holds;
-        i += 1;
     }
     if any {
         return Slot::Reusable;
@@ -104,80 +143,165 @@ pub fn judge(s: State, memory: &[u8], slot: u32) -> Slot
 }
 
 // The slot state. Refused, in this order: 11, 12 for a slot behind now, 13 above the limit.
-pub fn slot_state(s: State, memory: &[u8], slot: u32) -> SlotAnswer
-    ensures { result ≡ slot_answer (channel s memory.now) slot }
+pub fn slot_state(s: State, memory: &[u8], slot: u32) -> Result<Slot, Refusal>
+    ensures { slot_given result ≡ slot_answer (channel s memory.now) slot }
 {
-    if table::is_sound(s, memory) {
-        if slot < s.now {
-            return SlotAnswer::Refused(12);
-        }
-        if 1000000000 < slot {
-            return SlotAnswer::Refused(13);
-        }
-        let state = judge(s, memory, slot);
-        return SlotAnswer::Is(state);
+    if !table::is_sound(s, memory) {
+        return Err(Refusal::NotSound);
     }
-    SlotAnswer::Refused(11)
+    if slot < s.now {
+        return Err(Refusal::Behind);
+    }
+    if 1000000000 < slot {
+        return Err(Refusal::Late);
+    }
+    Ok(judge(s, memory, slot))
 }
 
-// ---- numbers
+// ---- a window of slots from lo on: octets, 32 more behind them
+// The octets and lo are two parameters: a struct that holds lent octets can't keep a fact about them (`WindowFits`), and each contract would grow.
 
-// The greater of an octet and a mark.
-fn greater(octet: u8, mark: u8) -> u8
-    ensures { result ≡ max octet mark }
+// The first slot behind it. (`as`: `usize` has no `From` into `u64`.)
+fn end_of(out: &[u8], lo: u64) -> u64
+    requires { WindowFits lo out.now }
+    ensures { result ≡ lo + window_slots out.now }
 {
-    if octet < mark {
-        return mark;
-    }
-    octet
+    lo + (out.len() - 32) as u64
 }
 
-fn smaller(a: u8, b: u8) -> u8
-    ensures { result ≡ min a b }
+// ---- one block
+
+// Marks the octets from a place up to another.
+fn mark_run(out: &mut [u8], from: usize, to: usize, mark: Mark)
+    requires { to ≤ len out.old }
+    ensures { MarkedWhere (len out.old) mark.octet (from_up_to from to) out.old out.new }
 {
-    if a < b {
-        return a;
+    for i in from..to {
+        out[i] = out[i].max(mark.octet);
     }
-    b
 }
 
-// a less b, 0 where b is greater.
-fn minus(a: u8, b: u8) -> u8
-    ensures { result ≡ a - b }
+// Marks those slots of a block that lie in the window.
+fn mark_block(out: &mut [u8], lo: u64, start: u64, length: u64, mark: Mark)
+    requires { WindowFits lo out.old × (start ≤ 4398046511104) × (length ≤ 4398046511104) }
+    ensures { MarkedSlots lo mark.octet (in_block start length) out.old out.new }
 {
-    if a < b {
-        return 0;
-    }
-    a - b
+    let end = end_of(out, lo);
+    let from = start.saturating_sub(lo);
+    let to = (start + length).min(end).saturating_sub(lo);
+    mark_run(out, from as usize, to as usize, mark);
 }
 
-// The same three in 64 bits.
-fn larger(a: u64, b: u64) -> u64
-    ensures { result ≡ max a b }
+// Marks a block of at most WIDTH slots, all of them at once: so many octets from its place on are raised, those behind the block to 0. Three for
+// each slot of the block, less one and three for each slot before: in the block that is 2 at least, behind it 0. The one makes all places alike to
+// the compiler.
+fn mark_wide<const WIDTH: u8>(out: &mut [u8], at: usize, length: u8, mark: Mark)
+    requires { (at + 32 ≤ len out.old) × (length ≤ WIDTH) × (WIDTH ≤ 32) }
+    ensures { MarkedWhere (len out.old) mark.octet (in_block at length) out.old out.new }
 {
-    if a < b {
-        return b;
+    let edge = length * 3;
+    for d in 0..WIDTH {
+        let place = at + usize::from(d);
+        let raised = mark.octet.min(edge.saturating_sub(d * 3 + 1));
+        out[place] = out[place].max(raised);
     }
-    a
 }
 
-fn lesser(a: u64, b: u64) -> u64
-    ensures { result ≡ min a b }
+// Marks what a block that started by lo, of at most WIDTH slots, has left in the window.
+fn mark_rest<const WIDTH: u8>(out: &mut [u8], lo: u64, start: u64, length: u8, mark: Mark)
+    requires { (start ≤ lo) × (lo ≤ 4398046511104) × (32 ≤ len out.old) × (length ≤ WIDTH) × (WIDTH ≤ 32) }
+    ensures { MarkedWhere (len out.old) mark.octet (λ i. in_block start length (lo + i)) out.old out.new }
 {
-    if a < b {
-        return a;
-    }
-    b
+    let left = (start + u64::from(length)).saturating_sub(lo);
+    mark_wide::<WIDTH>(out, 0, left as u8, mark);
 }
 
-fn less(a: u64, b: u64) -> u64
-    ensures { result ≡ a - b }
+// ---- a series of blocks, in a window
+
+// Marks the blocks of a series, of at most WIDTH slots each, that start from the start of one on, which is at lo or behind it, and before a stop.
+fn mark_ahead<const WIDTH: u8>(out: &mut [u8], lo: u64, next: u64, stop: u64, s: Series, mark: Mark)
+    requires { Starts s next × (lo ≤ next) × (lo ≤ stop) × Apart WIDTH s × (stop ≤ s.start + s.blocks * s.spacing) × (stop + 32 ≤ lo + len out.old) }
+    ensures { MarkedWhere (len out.old) mark.octet (λ i. holds_between next stop s (lo + i)) out.old out.new }
 {
-    if a < b {
-        return 0;
+    let behind = (stop - lo) as usize;
+    let mut at = (next - lo) as usize;
+    // `step_by` tests once more for each block: up to an eighth slower.
+    while at < behind {
+        mark_wide::<WIDTH>(out, at, s.length, mark);
+        at += s.spacing as usize;
     }
-    a - b
 }
+
+// Of a series whose blocks lie apart, of at most WIDTH slots each, marks the block that started before lo and may not be over; where the next one
+// starts.
+fn mark_begun<const WIDTH: u8>(out: &mut [u8], lo: u64, s: Series, mark: Mark) -> u64
+    requires { WindowFits lo out.old × Apart WIDTH s × (lo < s.start + s.blocks * s.spacing) }
+    ensures { BegunBlock lo s mark.octet out.old out.new result }
+{
+    if lo <= s.start {
+        return s.start;
+    }
+    let spacing = u64::from(s.spacing);
+    let begun = s.start + (lo - s.start) / spacing * spacing;
+    mark_rest::<WIDTH>(out, lo, begun, s.length, mark);
+    begun + spacing
+}
+
+// Marks the blocks of a series that lie apart, of at most WIDTH slots each. Where they end is worked out before the block that started before lo is
+// found, which takes a division.
+fn mark_apart<const WIDTH: u8>(out: &mut [u8], lo: u64, s: Series, mark: Mark)
+    requires { Apart WIDTH s × (lo ≤ s.start + (s.blocks - 1) * s.spacing + s.length) × WindowFits lo out.old }
+    ensures { MarkedSlots lo mark.octet (holds s) out.old out.new }
+{
+    let stop = (s.start + s.run()).min(end_of(out, lo));
+    let next = mark_begun::<WIDTH>(out, lo, s, mark);
+    mark_ahead::<WIDTH>(out, lo, next, stop, s, mark);
+}
+
+// Marks block after block.
+fn mark_each(out: &mut [u8], lo: u64, s: Series, mark: Mark)
+    requires { WindowFits lo out.old }
+    ensures { MarkedSlots lo mark.octet (holds s) out.old out.new }
+{
+    for j in 0..s.blocks {
+        let start = s.start + u64::from(j) * u64::from(s.spacing);
+        mark_block(out, lo, start, u64::from(s.length), mark);
+    }
+}
+
+// Marks the blocks of a series, whatever they are: those that touch or overlap are one run.
+fn mark_any(out: &mut [u8], lo: u64, s: Series, mark: Mark)
+    requires { WindowFits lo out.old }
+    ensures { MarkedSlots lo mark.octet (holds s) out.old out.new }
+{
+    if s.spacing <= u32::from(s.length) {
+        mark_block(out, lo, s.start, s.run(), mark);
+        return;
+    }
+    mark_each(out, lo, s, mark);
+}
+
+// Marks a series of blocks. Those that touch, or are of more than 32 slots, which no sound table has, go a way of their own; others go by the narrower of
+// two widths that their length allows.
+fn mark_series(out: &mut [u8], lo: u64, s: Series, mark: Mark)
+    requires { WindowFits lo out.old }
+    ensures { MarkedSlots lo mark.octet (holds s) out.old out.new }
+{
+    if s.start + s.run() < lo {
+        return;
+    }
+    if (s.spacing <= u32::from(s.length)) | (32 < s.length) {
+        mark_any(out, lo, s, mark);
+        return;
+    }
+    if s.length <= 16 {
+        mark_apart::<16>(out, lo, s, mark);
+        return;
+    }
+    mark_apart::<32>(out, lo, s, mark);
+}
+
+// ---- the records
 
 // Whether so many slots from a start on reach a window from lo up to an end, by one test: their end is ahead of lo by less than both are wide. Where
 // it is behind, it is ahead by more than that. Apart, the first of two tests would often be guessed wrong.
@@ -188,227 +312,33 @@ fn reaches(lo: u64, end: u64, start: u64, width: u64) -> bool
     series::ahead_of(start + width, lo) < end - lo + width
 }
 
-// One of two numbers.
-fn either(which: bool, a: u64, b: u64) -> u64
-    ensures { (result ≡ cond which a b) × (result ≤ max a b) }
-{
-    if which { a } else { b }
-}
-
-// A product that stays small.
-fn times(n: u64, m: u64) -> u64
-    requires { (n ≤ 255) × (m ≤ 4294967295) }
-    ensures { (result ≡ n * m) × (result ≤ 1095216660225) }
-{
-    n * m
-}
-
-// ---- one block
-
-// Marks the octets from a place up to another.
-fn mark_run(out: &mut [u8], from: usize, to: usize, mark: u8)
-    requires { to ≤ len out.old }
-    ensures { MarkedWhere (len out.old) mark (from_up_to from to) out.old out.new }
-{
-    let mut i = from;
-    while i < to {
-        out[i] = greater(out[i], mark);
-        i += 1;
-    }
-}
-
-// Marks those slots of a block that lie in the window from lo up to an end.
-fn mark_block(out: &mut [u8], lo: u64, end: u64, start: u64, length: u64, mark: u8)
-    requires { WindowFits lo end out.old × (start ≤ 4398046511104) × (length ≤ 4398046511104) }
-    ensures { MarkedWhere (end - lo) mark (λ i. in_block start length (lo + i)) out.old out.new }
-{
-    let from = less(start, lo);
-    let to = less(lesser(start + length, end), lo);
-    mark_run(out, from as usize, to as usize, mark);
-}
-
-// Marks a block of at most so many slots as it is wide, all of them at once: so many octets from its place on are raised, those behind the
-// block to 0. Three for each slot of the block, less one and three for each slot before: in the block that is 2 at least, behind it 0. The one
-// makes all places alike to the compiler.
-fn mark_wide(out: &mut [u8], at: usize, length: u8, mark: u8, width: u8)
-    requires { (at + 32 ≤ len out.old) × (length ≤ width) × (width ≤ 32) × (mark ≤ 2) }
-    ensures { MarkedWhere (len out.old) mark (in_block at length) out.old out.new }
-{
-    let edge = length * 3;
-    let mut d = 0u8;
-    while d < width {
-        let place = at + d as usize;
-        out[place] = greater(out[place], smaller(mark, minus(edge, d * 3 + 1)));
-        d += 1;
-    }
-}
-
-// Marks what a block that started by lo, of at most so many slots as it is wide, has left in the window.
-fn mark_rest(out: &mut [u8], lo: u64, start: u64, length: u64, mark: u8, width: u8)
-    requires { (start ≤ lo) × (lo ≤ 4398046511104) × (32 ≤ len out.old) × (length ≤ width) × (width ≤ 32) × (mark ≤ 2) }
-    ensures { MarkedWhere (len out.old) mark (λ i. in_block start length (lo + i)) out.old out.new }
-{
-    mark_wide(out, 0, less(start + length, lo) as u8, mark, width);
-}
-
-// ---- a series of blocks, in a window from lo up to an end behind which there are 32 octets more
-
-// The series without its first n blocks.
-fn after(s: Series, n: u64) -> Series
-    requires { Small s × (n ≤ s.blocks) }
-    ensures { result ≡ after s n }
-{
-    Series {
-        start: s.start + times(n, s.spacing),
-        spacing: s.spacing,
-        blocks: s.blocks - n,
-        length: s.length,
-    }
-}
-
-// How many slots there are from the start of its first block to the end of its last.
-fn run_of(s: Series) -> u64
-    requires { (0 < s.blocks) × (s.blocks ≤ 255) × (s.spacing ≤ 4294967295) × (s.length ≤ 255) }
-    ensures { (result ≡ (s.blocks - 1) * s.spacing + s.length) × (result ≤ 1095216660480) }
-{
-    times(s.blocks - 1, s.spacing) + s.length
-}
-
-// How many of its blocks are left out, as they are over before lo. Not all are.
-fn skipped(lo: u64, s: Series) -> u64
-    requires { (s.length < s.spacing) × (0 < s.blocks) × (lo < s.start + s.blocks * s.spacing) }
-    ensures { Skips lo s result }
-{
-    let spacing = s.spacing;
-    less(lo, s.start) / spacing
-}
-
-// Marks the blocks of a series that start before a stop, the first of them at lo or behind it, of at most so many slots as they are wide.
-// How many they are, j, only the proof asks.
-fn mark_ahead(out: &mut [u8], lo: u64, stop: u64, s: Series, mark: u8, width: u8)
-    requires { Small s × (lo ≤ s.start) × (lo ≤ stop) × (s.length < s.spacing) × (s.length ≤ width) × (width ≤ 32) × (stop ≤ s.start + s.blocks * s.spacing) × (stop + 32 ≤ lo + len out.old) × (mark ≤ 2) }
-    ensures { MarkedWhere (len out.old) mark (λ i. holds_before stop s (lo + i)) out.old out.new }
-{
-    let behind = (stop - lo) as usize;
-    let length = s.length as u8;
-    let mut at = (s.start - lo) as usize;
-    let mut j = 0u64;
-    while at < behind {
-        mark_wide(out, at, length, mark, width);
-        at += s.spacing as usize;
-        j += 1;
-    }
-}
-
-// Of a series whose blocks lie apart, of at most so many slots each as they are wide, marks the block that started before lo and may not be
-// over; the series that is left, from lo on.
-fn mark_begun(out: &mut [u8], lo: u64, s: Series, mark: u8, width: u8) -> Series
-    requires { Small s × (0 < s.blocks) × (s.length < s.spacing) × (s.length ≤ width) × (width ≤ 32) × (lo < s.start + s.blocks * s.spacing) × (32 ≤ len out.old) × (mark ≤ 2) }
-    ensures left { Left lo s result }
-    ensures marked { MarkedWhere (len out.old) mark (λ i. first_hold s (s.blocks - result.blocks) (lo + i)) out.old out.new }
-{
-    if lo <= s.start {
-        return s;
-    }
-    let reaching = after(s, skipped(lo, s));
-    mark_rest(out, lo, reaching.start, reaching.length, mark, width);
-    after(reaching, 1)
-}
-
-// Marks the blocks of a series that lie apart, of at most so many slots each as they are wide. Where they end is worked out before how many are
-// left out, which takes a division.
-fn mark_apart(out: &mut [u8], lo: u64, end: u64, s: Series, mark: u8, width: u8)
-    requires { Small s × (0 < s.blocks) × (s.length < s.spacing) × (s.length ≤ width) × (width ≤ 32) × (lo ≤ s.start + (s.blocks - 1) * s.spacing + s.length) × WindowFits lo end out.old × (mark ≤ 2) }
-    ensures { MarkedWhere (end - lo) mark (λ i. holds s (lo + i)) out.old out.new }
-{
-    let stop = lesser(s.start + run_of(s), end);
-    let left = mark_begun(out, lo, s, mark, width);
-    mark_ahead(out, lo, stop, left, mark, width);
-}
-
-// Marks block after block.
-fn mark_each(out: &mut [u8], lo: u64, end: u64, s: Series, mark: u8)
-    requires { WindowFits lo end out.old × Small s }
-    ensures { MarkedWhere (end - lo) mark (λ i. holds s (lo + i)) out.old out.new }
-{
-    let mut start = s.start;
-    let mut j = 0;
-    while j < s.blocks {
-        mark_block(out, lo, end, start, s.length, mark);
-        start += s.spacing;
-        j += 1;
-    }
-}
-
-// Marks the blocks of a series, whatever they are: those that touch or overlap are one run.
-fn mark_any(out: &mut [u8], lo: u64, end: u64, s: Series, mark: u8)
-    requires { WindowFits lo end out.old × Small s × (0 < s.blocks) }
-    ensures { MarkedWhere (end - lo) mark (λ i. holds s (lo + i)) out.old out.new }
-{
-    if s.spacing <= s.length {
-        mark_block(out, lo, end, s.start, run_of(s), mark);
-        return;
-    }
-    mark_each(out, lo, end, s, mark);
-}
-
-// Marks a series of blocks. Those that touch, or are of more than 32 slots, which no sound table has, go a way of their own; others go by the narrower of
-// two widths that their length allows.
-fn mark_series(out: &mut [u8], lo: u64, end: u64, s: Series, mark: u8)
-    requires { WindowFits lo end out.old × Small s × (0 < s.blocks) × (mark ≤ 2) }
-    ensures { MarkedWhere (end - lo) mark (λ i. holds s (lo + i)) out.old out.new }
-{
-    if s.start + run_of(s) < lo {
-        return;
-    }
-    if (s.spacing <= s.length) | (32 < s.length) {
-        mark_any(out, lo, end, s, mark);
-        return;
-    }
-    if s.length <= 16 {
-        mark_apart(out, lo, end, s, mark, 16);
-        return;
-    }
-    mark_apart(out, lo, end, s, mark, 32);
-}
-
-// ---- the records
-
-// The mark of a record: 1 far, 2 near.
-fn mark_of(far: u8) -> u8
-    ensures { result ≡ mark_of far }
-{
-    if far == 1 {
-        return 1;
-    }
-    2
-}
-
 // Of so many superframes, M1 slots each, the first from a slot on, how many begin before an end: one, two and all are told apart.
-fn begun_by(end: u64, from: u64, m1: u64, superframes: u64) -> u64
-    requires { (from ≤ 4398046511104) × (m1 ≤ 4294967295) }
+fn begun_by(end: u64, from: u64, m1: u32, superframes: u32) -> u32
+    requires { from ≤ 4398046511104 }
     ensures { (result ≤ superframes) × ((k : ℕ) → result ≤ k → k < superframes → end ≤ from + k * m1) }
 {
-    let begun = either(
-        end <= from + m1,
+    let second = from + u64::from(m1);
+    let third = second + u64::from(m1);
+    let begun = select_unpredictable(
+        end <= second,
         1,
-        either(end <= from + m1 + m1, 2, superframes),
+        select_unpredictable(end <= third, 2, superframes),
     );
-    lesser(begun, superframes)
+    begun.min(superframes)
 }
 
 // How many are over before lo, the first at a slot: none, one and two are told apart.
-fn over_by(lo: u64, over: u64, m1: u64) -> u64
-    requires { (over ≤ 4398046511104) × (m1 ≤ 4294967295) }
+fn over_by(lo: u64, over: u64, m1: u32) -> u32
+    requires { over ≤ 4398046511104 }
     ensures { (k : ℕ) → k < result → over + k * m1 ≤ lo }
 {
-    either(over <= lo, 1, 0) + either(over + m1 <= lo, 1, 0)
+    u32::from(over <= lo) + u32::from(over + u64::from(m1) <= lo)
 }
 
 // Of a record's own superframes those that are left in a window: from the first that isn't over before it up to the first that begins behind it. All
 // are asked or none, and `over` is where the first of them is over. Where there is but one, none is left out.
-fn left_of(lo: u64, end: u64, from: u64, over: u64, m1: u64, superframes: u64, asked: u64) -> Bounds
-    requires { (from ≤ over) × (over ≤ 4398046511104) × (m1 ≤ 4294967295) × (asked ≤ superframes) }
+fn left_of(lo: u64, end: u64, from: u64, over: u64, m1: u32, superframes: u32, asked: u32) -> Bounds
+    requires { (from ≤ over) × (over ≤ 4398046511104) × (asked ≤ superframes) }
     ensures { Between lo end from over m1 asked result }
 {
     if superframes <= 1 {
@@ -418,144 +348,111 @@ fn left_of(lo: u64, end: u64, from: u64, over: u64, m1: u64, superframes: u64, a
         };
     }
     let behind = begun_by(end, from, m1, asked);
-    let first = lesser(over_by(lo, over, m1), less(behind, 1));
+    let first = over_by(lo, over, m1).min(behind.saturating_sub(1));
     Bounds { first, behind }
 }
 
 // Marks the blocks of a record's superframes that are left, in a window whose slots have 128 added too.
-fn mark_left(out: &mut [u8], lo: u64, end: u64, r: Rec, spacing: u64, left: Superframes)
-    requires { WindowFits lo end out.old × (0 < r.rate) × (spacing ≤ 4294967295) × Few left }
-    ensures { MarkedWhere (end - lo) (mark_of r.far) (λ i. held_left spacing r left left.all (lo + i)) out.old out.new }
+fn mark_left(out: &mut [u8], lo: u64, r: Rec, spacing: u32, left: Superframes)
+    requires { WindowFits lo out.old × (0 < r.rate) × Few left }
+    ensures { MarkedSlots lo (mark_of r.far) (held_left spacing r left left.all) out.old out.new }
 {
-    let mut k = left.first;
-    while k < left.all {
+    for k in left.first..left.all {
+        let own = left.from + u64::from(k) * u64::from(left.m1);
         let s = Series {
-            start: either(k < left.own, left.from + times(k, left.m1), left.next),
+            start: select_unpredictable(k < left.own, own, left.next),
             spacing,
-            blocks: r.rate as u64,
-            length: r.length as u64,
+            blocks: r.rate,
+            length: r.length,
         };
-        mark_series(out, lo, end, s, mark_of(r.far));
-        k += 1;
+        mark_series(out, lo, s, Mark::of(r.far));
     }
 }
 
 // Marks the blocks of a record's superframes, in a window whose slots have 128 added too. A record that can't reach it is left by one test of both
 // its series; of others those superframes are left out that are over before it or begin behind it. There is no branch by which ones they are, as it
 // would often be guessed wrong.
-fn mark_superframes(out: &mut [u8], lo: u64, end: u64, m1: u32, r: Rec, spacing: u64)
-    requires { WindowFits lo end out.old × (0 < r.rate) × (spacing ≡ m1 / r.rate) }
-    ensures { MarkedWhere (end - lo) (mark_of r.far) (λ i. held_lifted m1 r (lo + i)) out.old out.new }
+fn mark_superframes(out: &mut [u8], lo: u64, m1: u32, r: Rec, spacing: u32)
+    requires { WindowFits lo out.old × (0 < r.rate) × (spacing ≡ m1 / r.rate) }
+    ensures { MarkedSlots lo (mark_of r.far) (held_lifted m1 r) out.old out.new }
 {
-    let m = m1 as u64;
-    let from = r.first as u64 + 128;
+    let end = end_of(out, lo);
+    let from = u64::from(r.first) + 128;
     let next = series::further_from(r, m1);
-    let superframes = r.superframes as u64;
-    let run = times(r.rate as u64 - 1, spacing) + r.length as u64;
-    let width = times(less(superframes, 1), m) + run;
-    let own = either(reaches(lo, end, from, width), superframes, 0);
-    let further = either(reaches(lo, end, next, run) & (r.bo != 0), 1, 0);
+    let superframes = u32::from(r.superframes);
+    let run = (u64::from(r.rate) - 1) * u64::from(spacing) + u64::from(r.length);
+    let width = u64::from(r.superframes).saturating_sub(1) * u64::from(m1) + run;
+    let own = select_unpredictable(reaches(lo, end, from, width), superframes, 0);
+    let further = u32::from(reaches(lo, end, next, run) & (r.bo != 0));
     if own + further == 0 {
         return;
     }
-    let b = left_of(lo, end, from, from + run, m, superframes, own);
+    let b = left_of(lo, end, from, from + run, m1, superframes, own);
     let left = Superframes {
         from,
-        m1: m,
+        m1,
         next,
         first: b.first,
         own: b.behind,
         all: b.behind + further,
     };
-    mark_left(out, lo, end, r, spacing, left);
+    mark_left(out, lo, r, spacing, left);
 }
 
 // M1 over a rate, the remainder dropped. A record of one block to a superframe is not divided for.
-fn spacing_of(m1: u32, rate: u8) -> u64
+fn spacing_of(m1: u32, rate: u8) -> u32
     requires { 0 < rate }
     ensures { result ≡ m1 / rate }
 {
     if rate == 1 {
-        return m1 as u64;
+        return m1;
     }
-    m1 as u64 / rate as u64
+    m1 / u32::from(rate)
 }
 
 // Marks the slots that a record reserves: none where it has no block. 128 is added to all of them, as the further superframe may begin below 0.
-fn mark_record(out: &mut [u8], lo: u64, end: u64, m1: u32, r: Rec)
-    requires { WindowFits lo end out.old × (lo ≤ 4294967295) }
-    ensures { MarkedWhere (end - lo) (mark_of r.far) (λ i. reserves m1 r (lo + i)) out.old out.new }
+fn mark_record(out: &mut [u8], first: u32, m1: u32, r: Rec)
+    requires { 32 ≤ len out.old }
+    ensures { MarkedSlots first (mark_of r.far) (reserves m1 r) out.old out.new }
 {
-    let rate = r.rate as u64;
-    if rate < 1 {
+    if r.rate < 1 {
         return;
     }
-    mark_superframes(out, lo + 128, end + 128, m1, r, spacing_of(m1, r.rate));
+    mark_superframes(out, u64::from(first) + 128, m1, r, spacing_of(m1, r.rate));
 }
 
 // ---- the slot states of a window
 
-// Whether a record is left out: where `own` is left out, one of the station, else one of another. No record is of a station of 33 bits.
-fn left_out(r: Rec, station: u64, own: bool) -> bool
-    ensures { result ≡ left_out station own r }
+// Marks the slots that a record reserves, if a part has it, unless it is far and no slot is free: it changes nothing then.
+fn mark_needed(out: &mut [u8], first: u32, m1: u32, r: Rec, part: Part, full: bool)
+    requires { (32 ≤ len out.old) × (full ≡ true → AtLeast (window_slots out.old) 1 out.old) }
+    ensures { MarkedSlots first (mark_of r.far) (λ slot. takes part r && reserves m1 r slot) out.old out.new }
 {
-    let mine = r.station as u64 == station;
-    mine == own
+    if part.takes(r) {
+        let far = r.far == 1;
+        if full & far {
+            return;
+        }
+        mark_record(out, first, m1, r);
+    }
 }
 
-// Marks the slots that a record reserves, unless it is left out, or is far and no slot is free: it changes nothing then.
-fn mark_needed(
-    out: &mut [u8],
-    lo: u64,
-    end: u64,
-    m1: u32,
-    r: Rec,
-    station: u64,
-    own: bool,
-    full: bool,
-)
-    requires { WindowFits lo end out.old × (lo ≤ 4294967295) × (full ≡ true → AtLeast (end - lo) 1 out.old) }
-    ensures { MarkedWhere (end - lo) (mark_of r.far) (λ i. not (left_out station own r) && reserves m1 r (lo + i)) out.old out.new }
-{
-    if left_out(r, station, own) {
-        return;
-    }
-    let far = r.far == 1;
-    if full & far {
-        return;
-    }
-    mark_record(out, lo, end, m1, r);
-}
-
-// Marks the slots that the records from i up to n reserve, but those that are left out.
+// Marks the slots that the records from i up to n reserve, those that a part has.
 fn mark_some(
     out: &mut [u8],
-    lo: u64,
-    end: u64,
+    first: u32,
     m1: u32,
     memory: &[u8],
     i: usize,
     n: usize,
-    station: u64,
-    own: bool,
+    part: Part,
     full: bool,
 )
-    requires { WindowFits lo end out.old × (lo ≤ 4294967295) × (n ≤ capacity memory.now) × (full ≡ true → AtLeast (end - lo) 1 out.old) }
-    ensures { Raised (end - lo) m1 (chosen station own (records_from i n memory.now)) lo out.old out.new }
+    requires { (32 ≤ len out.old) × (n ≤ capacity memory.now) × (full ≡ true → AtLeast (window_slots out.old) 1 out.old) }
+    ensures { Raised (window_slots out.old) m1 (keep (takes part) (records_from i n memory.now)) first out.old out.new }
 {
-    let mut k = i;
-    while k < n {
-        mark_needed(
-            out,
-            lo,
-            end,
-            m1,
-            record::load(memory, k),
-            station,
-            own,
-            full,
-        );
-        k += 1;
+    for k in i..n {
+        mark_needed(out, first, m1, record::load(memory, k), part, full);
     }
 }
 
@@ -564,95 +461,33 @@ fn first_below(out: &[u8], from: usize, n: usize, mark: u8) -> usize
     requires { (from ≤ n) × (n ≤ len out.now) × AtLeast from mark out.now }
     ensures { (result ≤ n) × AtLeast result mark out.now }
 {
-    let mut i = from;
-    while i < n {
+    for i in from..n {
         if out[i] < mark {
             return i;
         }
-        i += 1;
     }
     n
 }
 
-// Marks the first n octets by the records held from a place on, but those that are left out, sixteen at a time. Once every slot is taken, no
-// other record changes one.
-fn mark_records(
-    out: &mut [u8],
-    n: usize,
-    s: State,
-    memory: &[u8],
-    first: u32,
-    from: usize,
-    station: u64,
-    own: bool,
-)
-    requires { n + 32 ≤ len out.old }
-    ensures { Raised n s.m1 (chosen station own (drop from (records (channel s memory.now)))) first out.old out.new }
+// Marks a window's slots by a part of the records held, sixteen at a time. Once every slot is taken, no other record changes one.
+fn mark_records(out: &mut [u8], s: State, memory: &[u8], first: u32, part: Part)
+    requires { 32 ≤ len out.old }
+    ensures { Raised (window_slots out.old) s.m1 (keep (takes part) (drop (begins_at part) (records (channel s memory.now)))) first out.old out.new }
 {
-    let lo = first as u64;
-    let end = lo + n as u64;
+    let n = out.len() - 32;
     let held = record::held_count(memory, s.count as usize);
     let mut taken = 0;
     let mut reserved = 0;
-    let mut i = from;
-    while i < held {
-        let next = lesser(i as u64 + 16, held as u64) as usize;
-        mark_some(
-            out,
-            lo,
-            end,
-            s.m1,
-            memory,
-            i,
-            next,
-            station,
-            own,
-            reserved == n,
-        );
-        i = next;
-        if i < held {
+    for i in (part.begins_at()..held).step_by(16) {
+        let next = (i + 16).min(held);
+        mark_some(out, first, s.m1, memory, i, next, part, reserved == n);
+        if next < held {
             taken = first_below(out, taken, n, 2);
             if taken == n {
                 return;
             }
-            reserved = first_below(out, larger(taken as u64, reserved as u64) as usize, n, 1);
+            reserved = first_below(out, taken.max(reserved), n, 1);
         }
-    }
-}
-
-// The place that a part begins at.
-fn begins_at(part: Part) -> usize
-    ensures { result ≡ begins_at part }
-{
-    match part {
-        Part::All => 0,
-        Part::From(k) => k as usize,
-        Part::Own(station) => 0,
-        Part::Others(station) => 0,
-    }
-}
-
-// The station that a part asks about; one of 33 bits, which no record is of, where it asks about none.
-fn asks_about(part: Part) -> u64
-    ensures { result ≡ asks_about part }
-{
-    match part {
-        Part::All => 4294967296,
-        Part::From(k) => 4294967296,
-        Part::Own(station) => station as u64,
-        Part::Others(station) => station as u64,
-    }
-}
-
-// Whether that station's records are left out, or else the others'.
-fn without_own(part: Part) -> bool
-    ensures { result ≡ without_own part }
-{
-    match part {
-        Part::All => true,
-        Part::From(k) => true,
-        Part::Own(station) => false,
-        Part::Others(station) => true,
     }
 }
 
@@ -666,16 +501,7 @@ pub fn raise(s: State, memory: &[u8], part: Part, first: u32, out: &mut [u8])
         return;
     }
     let n = out.len() - 32;
-    mark_records(
-        out,
-        n,
-        s,
-        memory,
-        first,
-        begins_at(part),
-        asks_about(part),
-        without_own(part),
-    );
+    mark_records(out, s, memory, first, part);
     octets::clear_from(out, n);
 }
 

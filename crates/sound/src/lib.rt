@@ -1,7 +1,7 @@
 // Whether a table in lent memory is sound.
 #![tactic(auto)]
 
-ghost use Rattle.std.specs.Prelude.{◌≡◌, true, ◌&&◌, ◌*◌, ◌/◌, ◌≤◌, take};
+ghost use Rattle.std.specs.Prelude.{◌≡◌, true, ◌&&◌, ◌≤◌, take};
 ghost use Rattle.octets.specs.Lists.{every};
 ghost use Rattle.octets.specs.Refusals.{within};
 ghost use Rattle.codec.specs.Parameters.{m1_row, fits};
@@ -10,55 +10,18 @@ ghost use Rattle.sound.specs.Sound.{size_fits, numbers_fit, in_range, not_below0
 
 use record::Rec;
 
-// Whether x lies in lo..hi.
+// Whether x lies in lo..hi. It is a function of its own: with `contains` in `is_good` itself the tests become vector code.
 fn in_range(lo: u32, hi: u32, x: u32) -> bool
     ensures { result ≡ within lo hi x }
 {
-    let low = x < lo;
-    let high = hi < x;
-    !(low | high)
-}
-
-// Whether a record is good. The ranges are tested here, and on widened octets: apart from the sum, or as octets, they become vector code, which is slower.
-fn is_good(r: Rec, m1: u32, time: u32) -> bool
-    requires { m1 ≤ 15360 }
-    ensures { result ≡ good m1 time r }
-{
-    let station = r.station < 134217728;
-    let first = r.first <= 1000000255;
-    let rate = in_range(1, 60, r.rate as u32);
-    let superframes = in_range(1, 3, r.superframes as u32);
-    let length = in_range(1, 32, r.length as u32);
-    let far = r.far <= 1;
-    let bo = r.bo != 128;
-    let zeros = (r.zeros.a == 0) & (r.zeros.b == 0) & (r.zeros.c == 0);
-    if station & first & rate & superframes & length & far & bo & zeros {
-        return stands(r, m1, time);
-    }
-    false
-}
-
-// Whether all of the first n records are good.
-fn all_good(memory: &[u8], n: usize, m1: u32, time: u32) -> bool
-    requires { m1 ≤ 15360 }
-    ensures { result ≡ every (good m1 time) (take n (all_records memory.now)) }
-{
-    let held = record::held_count(memory, n);
-    let mut i = 0;
-    while i < held {
-        if !is_good(record::load(memory, i), m1, time) {
-            return false;
-        }
-        i += 1;
-    }
-    true
+    (lo..=hi).contains(&x)
 }
 
 // Whether M1 fits its row.
 pub fn m1_fits(m1: u32) -> bool
     ensures { result ≡ fits m1_row m1 }
 {
-    codec::parameter(1, m1) == 0
+    codec::parameter(1, m1).is_ok()
 }
 
 // Whether a memory is a whole number of records, 1 to 2,048.
@@ -88,43 +51,70 @@ fn numbers_fit(m1: u32, time: u32, count: u32, memory: &[u8]) -> bool
 pub fn is_sound(m1: u32, time: u32, count: u32, memory: &[u8]) -> bool
     ensures { result ≡ sound (record { m1 = m1; now = time; count = count; memory = memory.now }) }
 {
-    if numbers_fit(m1, time, count, memory) {
-        let n = count as usize;
-        if all_good(memory, n, m1, time) {
-            return record::is_clear(memory, n);
-        }
+    if !numbers_fit(m1, time, count, memory) {
+        return false;
     }
-    false
+    let n = count as usize;
+    let rule = Rule { m1, time };
+    rule.all_good(memory, n) && record::is_clear(memory, n)
 }
 
-// ---- a record's sums in 32 bits, which are enough for one in range: over the octets that were tested they are quicker than series' own
+// ---- what records are good by
 
-// m1 over a rate, the remainder dropped.
-fn spacing(m1: u32, rate: u32) -> u32
-    requires { (m1 ≤ 15360) × (1 ≤ rate) }
-    ensures { (result ≡ m1 / rate) × (result ≤ 15360) }
-{
-    m1 / rate
+// An M1 that is not above its row, and a time. A record's sums are worked out here in 32 bits, which are enough for one in range: over the octets that were
+// tested they are quicker than series' own.
+#[derive(Clone, Copy)]
+struct Rule {
+    m1: u32,
+    time: u32,
+    ghost m1_most: { m1 ≤ 15360 },
 }
 
-// A product that stays small.
-fn times(n: u32, m: u32) -> u32
-    requires { (n ≤ 59) × (m ≤ 15360) }
-    ensures { (result ≡ n * m) × (result ≤ 906240) }
-{
-    n * m
-}
+impl Rule {
+    // Whether all of the first n records are good.
+    fn all_good(self, memory: &[u8], n: usize) -> bool
+        ensures { result ≡ every (good self.m1 self.time) (take n (all_records memory.now)) }
+    {
+        for i in 0..record::held_count(memory, n) {
+            if !self.is_good(record::load(memory, i)) {
+                return false;
+            }
+        }
+        true
+    }
 
-// Whether a record in range has no further series below slot 0, and is not over at a time: `base` is where its last superframe starts, and by
-// `next`, less 128, the further one starts later than that.
-fn stands(r: Rec, m1: u32, time: u32) -> bool
-    requires { (in_range r ≡ true) × (m1 ≤ 15360) }
-    ensures { result ≡ (not_below0 m1 r && lasts m1 time r) }
-{
-    let rate = r.rate as u32;
-    let base = r.first + times(r.superframes as u32 - 1, m1);
-    let next = m1 + octets::lifted(r.bo) as u32;
-    let later = series::later_by(r.bo, next as u64) as u32;
-    let last = base + times(rate - 1, spacing(m1, rate)) + r.length as u32 - 1 + later;
-    (128 <= base + next) & (time <= last)
+    // Whether a record is good. The ranges are tested here, and on widened octets: apart from the sum, or as octets, they become vector code, which
+    // is slower.
+    fn is_good(self, r: Rec) -> bool
+        ensures { result ≡ good self.m1 self.time r }
+    {
+        let station = r.station < 134217728;
+        let first = r.first <= 1000000255;
+        let rate = in_range(1, 60, u32::from(r.rate));
+        let superframes = in_range(1, 3, u32::from(r.superframes));
+        let length = in_range(1, 32, u32::from(r.length));
+        let far = r.far <= 1;
+        let bo = r.bo != 128;
+        // One by one, as record derives no equality for them.
+        let zeros = (r.zeros.a == 0) & (r.zeros.b == 0) & (r.zeros.c == 0);
+        if station & first & rate & superframes & length & far & bo & zeros {
+            return self.stands(r);
+        }
+        false
+    }
+
+    // Whether a record in range has no further series below slot 0, and is not over at the time: `base` is where its last superframe starts, and by
+    // `next`, less 128, the further one starts later than that. The record lasts no more than
+    // `next` slots longer for it, so `as` loses nothing.
+    fn stands(self, r: Rec) -> bool
+        requires { in_range r ≡ true }
+        ensures { result ≡ (not_below0 self.m1 r && lasts self.m1 self.time r) }
+    {
+        let rate = u32::from(r.rate);
+        let base = r.first + (u32::from(r.superframes) - 1) * self.m1;
+        let next = self.m1 + u32::from(octets::lifted(r.bo));
+        let later = series::later_by(r.bo, u64::from(next)) as u32;
+        let last = base + (rate - 1) * (self.m1 / rate) + u32::from(r.length) - 1 + later;
+        (128 <= base + next) & (self.time <= last)
+    }
 }

@@ -1,13 +1,19 @@
 -- What a call gives back and leaves, by its refusal. Assumes nothing.
-use Prim.Native.Nat.{ℕ, zero, suc, ◌+◌, ◌-◌, ◌*◌, ◌≤◌}
+use Prim.Native.Nat.{ℕ, ◌+◌, ◌-◌, ◌*◌, ◌≤◌}
 use native.Mathlib.Omega.{arith}
 use mathlib.Core.Path.{◌≡◌, refl, ap, ◌∙◌, sym}
 use mathlib.Core.Bool.{Bool, true, false, not, true≢false}
 use mathlib.Core.List.{List, [], ◌∷◌, ◌++◌, map}
 use lib.Dec.{ltb}
 use lib.Ieee.{Float}
+use mir.Val.{bool_byte}
 use borrow.Author.Tests.{ltb-false}
 use lib.ListN.{length, length-append, length-map}
+use Rattle.std.proofs.Common.{Result, Ok, Err}
+use Rattle.refusal.specs.declared.Refusal.{Refusal}
+use Rattle.refusal.specs.declared.Refusal.TheVariants.{NotSound}
+use Rattle.refusal.specs.Refusals.{number_of}
+use Rattle.refusal.proofs.Numbers.{not_zero, one_number}
 use Rattle.octets.specs.Lists.{keep}
 use Rattle.octets.specs.Refusals.{first_of, outside}
 use Rattle.octets.specs.Complement.{octet_of, lifted}
@@ -23,10 +29,10 @@ use Rattle.series.proofs.Series.{further_before_sum}
 use Rattle.sound.specs.Sound.{Channel, records, sound}
 use Rattle.sound.proofs.Sound.{sound_parts}
 use Rattle.table.specs.declared.Request.{Request}
-use Rattle.table.specs.declared.Answer.{Answer}
+use Rattle.table.specs.declared.State.{State}
 use Rattle.table.specs.Table.{Call, clock, reserve, distance, wipe, look, far_octet, new_record, owned_by, set_far, request_tests, held_tests, call_tests, changed, reported, is_look}
-use Rattle.table.specs.Memory.{state_of, table_of, channel_of, call_refusal, leaves, says, returned, Gives}
-use Rattle.table.specs.Steps.{refused_answer, swept, added, added_memory}
+use Rattle.table.specs.Memory.{state_of, table_of, channel_of, call_refusal, leaves, says, call_said, Gives}
+use Rattle.table.specs.Steps.{swept, added, added_memory}
 
 -- ---- which refusal
 
@@ -40,6 +46,15 @@ pub call_refusal-sound : (m : Channel) (c : Call) → sound m ≡ true → call_
 unfolding call_refusal
 call_refusal-sound m c h = rw h
 
+-- ---- what results say
+
+-- results that say the same are equal
+pub said_once : (r q : Result ℕ Refusal) → call_said r ≡ call_said q → r ≡ q
+said_once (Ok m) (Ok n) h = ap (λ w. Ok w.number) h
+said_once (Ok m) (Err e) h = absurd (omega (arith, ap (λ w. w.refusal) h, not_zero e))
+said_once (Err e) (Ok n) h = absurd (omega (arith, ap (λ w. w.refusal) h, not_zero e))
+said_once (Err e) (Err f) h = ap Err (one_number e f (ap (λ w. w.refusal) h))
+
 -- ---- a refused call
 
 -- it leaves all as it was
@@ -52,23 +67,26 @@ refused-leaves m (wipe s) h = answer-refused _ (λ _. m) refl h
 refused-leaves m (look f) h = refl
 
 -- its number, and nothing changed
-pub refused_gives : (m : Channel) (c : Call) (n : ℕ) → n ≡ call_refusal m c → (n ≡ 0 → ⊥) → Gives m c (refused_answer n (state_of m)) m.memory
-unfolding returned says
-refused_gives m c n e h =
-    let l = refused-leaves m c (λ z. h (e ∙ z)) in
+pub refused_gives : (m : Channel) (c : Call) (e : Refusal) → call_refusal m c ≡ number_of e → Gives m c (call_said (Err e)) (state_of m) m.memory
+unfolding says
+refused_gives m c e h =
+    let z = not_zero e in
+    let n : number_of e ≡ 0 → ⊥ = λ k. omega arith in
+    let l = refused-leaves m c (λ k. n (sym h ∙ k)) in
     record {
-      result = rw (← l, ← e) (ap (λ k. record { refusal = n; number = k; state = state_of m }) (answer-refused (reported (table_of m) c) (λ _. 0) {n = n} refl h));
+      told = rw h (ap (λ k. record { refusal = number_of e; number = k }) (answer-refused (reported (table_of m) c) (λ _. 0) {n = number_of e} refl n));
+      state = ap state_of l;
       octets = ap (λ (u : Channel). u.memory) l;
     }
 
 -- so where the table isn't sound
-pub unsound_gives : (m : Channel) (c : Call) → sound m ≡ false → Gives m c (refused_answer 11 (state_of m)) m.memory
-unsound_gives m c h = refused_gives m c 11 (call_refusal_unsound m c h) (omega arith)
+pub unsound_gives : (m : Channel) (c : Call) → sound m ≡ false → Gives m c (call_said (Err NotSound)) (state_of m) m.memory
+unsound_gives m c h = refused_gives m c NotSound (sym (call_refusal_unsound m c h))
 
 -- and where one of the call's own tests holds
-pub tested_gives : (m : Channel) (c : Call) → sound m ≡ true → (n : ℕ) → first_of (call_tests (table_of m) c) ≡ n → (n ≡ 0 → ⊥)
-    → Gives m c (refused_answer n (state_of m)) m.memory
-tested_gives m c h n e z = refused_gives m c n (sym (call_refusal-sound m c h ∙ e)) z
+pub tested_gives : (m : Channel) (c : Call) → sound m ≡ true → (e : Refusal) → first_of (call_tests (table_of m) c) ≡ number_of e
+    → Gives m c (call_said (Err e)) (state_of m) m.memory
+tested_gives m c h e n = refused_gives m c e (call_refusal-sound m c h ∙ n)
 
 -- ---- an accepted call
 
@@ -83,12 +101,13 @@ accepted_leaves m (look f) h n = absurd (true≢false n)
 
 -- what it reports, and the changed table
 pub accepted_gives : (m : Channel) (c : Call) → 0 ≡ call_refusal m c → is_look c ≡ false
-    → Gives m c (record { refusal = 0; number = reported (table_of m) c; state = state_of (channel_of (changed (table_of m) c)) }) (channel_of (changed (table_of m) c)).memory
-unfolding returned says
+    → Gives m c (call_said (Ok (reported (table_of m) c))) (state_of (channel_of (changed (table_of m) c))) (channel_of (changed (table_of m) c)).memory
+unfolding says
 accepted_gives m c h n =
     let l = accepted_leaves m c h n in
     record {
-      result = rw (← h, l) (ap (λ k. record { refusal = 0; number = k; state = state_of (leaves m c) }) (answer_accepted (reported (table_of m) c) (λ _. 0) {m = 0} refl));
+      told = rw (← h) (ap (λ k. record { refusal = 0; number = k }) (answer_accepted (reported (table_of m) c) (λ _. 0) {m = 0} refl));
+      state = ap state_of l;
       octets = ap (λ (u : Channel). u.memory) l;
     }
 
@@ -97,35 +116,43 @@ pub sweep_gives : (m : Channel) (c : Call) → sound m ≡ true → first_of (ca
     → (t : ℕ) (p q : Rec → Bool) → ((r : Rec) → q r ≡ not (p r))
     → changed (table_of m) c ≡ record { m1 = m.m1; now = t; capacity = capacity m.memory; records = keep p (records m) }
     → reported (table_of m) c ≡ length (keep q (records m))
-    → Gives m c (swept m t p) (packed (capacity m.memory) (keep p (records m)))
+    → Gives m c (call_said (Ok (m.count - length (keep p (records m))))) (swept m t p) (packed (capacity m.memory) (keep p (records m)))
 unfolding channel_of
 sweep_gives m c h z n t p q f e r =
     let g = accepted_gives m c (sym (call_refusal-sound m c h ∙ z)) n in
     let d : m.count - length (keep p (records m)) ≡ reported (table_of m) c = rw r (omega (arith, (sound_parts m h).counted, length-keep-not p q f (records m))) in
-    record { result = rw (d, ← g.result, e); octets = rw (← g.octets, e) }
+    record { told = rw (d, ← g.told); state = rw (← g.state, e); octets = rw (← g.octets, e) }
 
 -- ---- a distance
+
+-- far as the code has it: a test as an octet
+pub far_byte : (b : Bool) → bool_byte b ≡ far_octet b
+far_byte true = refl
+far_byte false = refl
 
 -- where far is rewritten in the station's k records, and the octets b hold that
 pub distance_gives : (m : Channel) (s : ℕ) (d : Distance) (limit : Float) → sound m ≡ true → first_of (call_tests (table_of m) (distance s d limit)) ≡ 0
     → (k far : ℕ) (b : List ℕ) → k ≡ length (keep (owned_by s) (records m)) → far ≡ far_octet (is_far d limit) → b ≡ packed (capacity m.memory) (map (set_far s far) (records m))
-    → Gives m (distance s d limit) (record { refusal = 0; number = k; state = state_of m }) b
+    → Gives m (distance s d limit) (call_said (Ok k)) (state_of m) b
 unfolding table_of channel_of
 distance_gives m s d limit h z k far b ek ef eb =
     let g = accepted_gives m (distance s d limit) (sym (call_refusal-sound m (distance s d limit) h ∙ z)) refl in
-    record { result = rw (ek, ← g.result, length-map, (sound_parts m h).counted); octets = eb ∙ rw ef g.octets }
+    record { told = rw (ek, ← g.told); state = rw (← g.state, length-map, (sound_parts m h).counted); octets = eb ∙ rw ef g.octets }
 
 -- ---- a record to be added
 
 module _ (m : Channel) (x : Rec) where
-  -- refused with n
-  pub add-refused : (n : ℕ) → n ≡ first_of (held_tests (table_of m) x) → (n ≡ 0 → ⊥) → (refused_answer n (state_of m) ≡ added m x) × (m.memory ≡ added_memory m x)
+  -- refused
+  pub add-refused : (e : Refusal) → first_of (held_tests (table_of m) x) ≡ number_of e → (state_of m ≡ added m x) × (m.memory ≡ added_memory m x)
   unfolding added added_memory
-  add-refused n e h = (answer-refused _ _ {n = n} e h, answer-refused _ _ {n = n} e h)
+  add-refused e h =
+      let z = not_zero e in
+      let n : number_of e ≡ 0 → ⊥ = λ k. omega arith in
+      (answer-refused _ _ {n = number_of e} (sym h) n, answer-refused _ _ {n = number_of e} (sym h) n)
 
   -- not refused
   pub add_accepted : 0 ≡ first_of (held_tests (table_of m) x)
-      → (record { refusal = 0; number = 0; state = record { m1 = m.m1; now = m.now; count = m.count + 1 } } ≡ added m x) × (packed (capacity m.memory) (records m ++ (x ∷ [])) ≡ added_memory m x)
+      → (record { m1 = m.m1; now = m.now; count = m.count + 1 } ≡ added m x) × (packed (capacity m.memory) (records m ++ (x ∷ [])) ≡ added_memory m x)
   unfolding added added_memory
   add_accepted e = (answer_accepted _ _ e, answer_accepted _ _ e)
 
@@ -167,34 +194,35 @@ module _ (m : Channel) (q : Request) where
   tests = request_tests m.m1 m.now q
 
   -- refused for its numbers
-  pub request-refused : sound m ≡ true → (first_of tests ≡ 0 → ⊥) → Gives m (reserve q) (refused_answer (first_of tests) (state_of m)) m.memory
+  pub request-refused : sound m ≡ true → (e : Refusal) → first_of tests ≡ number_of e → Gives m (reserve q) (call_said (Err e)) (state_of m) m.memory
   unfolding table_of
-  request-refused h z = tested_gives m (reserve q) h _ (first_of-stop tests (held_tests (table_of m) x) z) z
+  request-refused h e t =
+      let z = not_zero e in
+      tested_gives m (reserve q) h e (first_of-stop tests (held_tests (table_of m) x) (λ k. omega (arith, k, t)) ∙ t)
 
   -- not refused for them, it goes by the place for its record
-  added_gives : sound m ≡ true → first_of tests ≡ 0 → Gives m (reserve q) (added m x) (added_memory m x)
-  unfolding channel_of table_of
-  added_gives h z = go (first_of (held_tests (table_of m) x)) refl
-    where
-      e : call_refusal m (reserve q) ≡ first_of (held_tests (table_of m) x)
-      e = call_refusal-sound m (reserve q) h ∙ first_of_append tests (held_tests (table_of m) x) refl z
+  module _ (h : sound m ≡ true) (z : first_of tests ≡ 0) where
+    by_place : call_refusal m (reserve q) ≡ first_of (held_tests (table_of m) x)
+    unfolding table_of
+    by_place = call_refusal-sound m (reserve q) h ∙ first_of_append tests (held_tests (table_of m) x) refl z
 
-      l : length (records m ++ (x ∷ [])) ≡ m.count + 1
-      l = length-append (records m) (x ∷ []) ∙ ap (λ n. n + 1) (sound_parts m h).counted
+    more : length (records m ++ (x ∷ [])) ≡ m.count + 1
+    more = length-append (records m) (x ∷ []) ∙ ap (λ n. n + 1) (sound_parts m h).counted
 
-      go : (n : ℕ) → first_of (held_tests (table_of m) x) ≡ n → Gives m (reserve q) (added m x) (added_memory m x)
-      go zero f =
-          let g = accepted_gives m (reserve q) (sym (e ∙ f)) refl in
-          let a = add_accepted m x (sym f) in
-          record { result = sym a.0 ∙ rw (← l) g.result; octets = sym a.1 ∙ g.octets }
-      go (suc n) f =
-          let g = refused_gives m (reserve q) (suc n) (sym (e ∙ f)) (omega arith) in
-          let a = add-refused m x (suc n) (sym f) (omega arith) in
-          record { result = sym a.0 ∙ g.result; octets = sym a.1 ∙ g.octets }
+    -- by a record y that is shown to be it, where there is none
+    pub request-lost : {y : Rec} {s : State} {b : List ℕ} (e : Refusal) → first_of (held_tests (table_of m) y) ≡ number_of e
+        → s ≡ added m y → b ≡ added_memory m y → y ≡ x → Gives m (reserve q) (call_said (Err e)) s b
+    request-lost {y} e t es eb k =
+        let a = add-refused m y e t in
+        let g = refused_gives m (reserve q) e (by_place ∙ ap (λ v. first_of (held_tests (table_of m) v)) (sym k) ∙ t) in
+        record { told = g.told; state = es ∙ sym a.0 ∙ g.state; octets = eb ∙ sym a.1 ∙ g.octets }
 
-  -- by a record y that is shown to be it
-  pub request-added : sound m ≡ true → first_of tests ≡ 0
-      → {y : Rec} {r : Answer} {b : List ℕ} → r ≡ added m y → b ≡ added_memory m y → y ≡ x → Gives m (reserve q) r b
-  request-added h z er eb e =
-      let g = rw (← e) at (added_gives h z) in
-      record { result = er ∙ g.result; octets = eb ∙ g.octets }
+    -- and where there is one
+    pub request-added : {y : Rec} {s : State} {b : List ℕ} → first_of (held_tests (table_of m) y) ≡ 0
+        → s ≡ added m y → b ≡ added_memory m y → y ≡ x → Gives m (reserve q) (call_said (Ok 0)) s b
+    unfolding channel_of table_of
+    request-added {y} t es eb k =
+        let f = sym (ap (λ v. first_of (held_tests (table_of m) v)) (sym k) ∙ t) in
+        let g = accepted_gives m (reserve q) (f ∙ sym by_place) refl in
+        let a = rw (← k) at (add_accepted m x f) in
+        record { told = g.told; state = es ∙ sym a.0 ∙ rw (← more) g.state; octets = eb ∙ sym a.1 ∙ rw (← k) at g.octets }

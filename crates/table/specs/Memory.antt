@@ -1,11 +1,12 @@
 -- The table in lent memory with the state beside it: what each call answers and leaves.
-use Rattle.std.specs.Prelude.{ℕ, ◌≡◌, not, List, [], ◌∷◌, length as len, replicate}
+use Rattle.std.specs.Prelude.{ℕ, ◌≡◌, not, List, [], ◌∷◌, Result, Ok, Err, length as len, replicate}
+use Rattle.refusal.specs.declared.Refusal.{Refusal}
+use Rattle.refusal.specs.Refusals.{number_of, Tells}
 use Rattle.octets.specs.Refusals.{first_of, answer}
 use Rattle.codec.specs.Parameters.{m1_row, fits}
 use Rattle.record.specs.Record.{capacity, packed}
 use Rattle.sound.specs.Sound.{Channel, records, size_fits, sound}
 use Rattle.table.specs.declared.State.{State}
-use Rattle.table.specs.declared.Answer.{Answer}
 use Rattle.table.specs.Table.{Table, Said, Call, clock, reserve, distance, wipe, look, call_tests, changed, reported}
 
 -- the channel of a state and the octets lent with it
@@ -48,13 +49,15 @@ leaves m (look f) = m
 unfoldable pub says : Channel → Call → Said
 says m c = record { refusal = call_refusal m c; number = answer (call_refusal m c) (reported (table_of m) c) (λ _. 0) }
 
--- what the functions return: the answer, and the state handed back
-unfoldable pub returned : Channel → Call → Answer
-returned m c = record { refusal = (says m c).refusal; number = (says m c).number; state = state_of (leaves m c) }
+-- what a result says: the refusal's number, or the number reported
+abbrev pub call_said : Result ℕ Refusal → Said
+call_said (Ok n) = record { refusal = 0; number = n }
+call_said (Err e) = record { refusal = number_of e; number = 0 }
 
--- what each of the functions promises: on the channel m it returns r and leaves the octets b
-pub record Gives (m : Channel) (c : Call) (r : Answer) (b : List ℕ) : Type 0 where
-  pub result : r ≡ returned m c
+-- what each of the functions promises: on the channel m its result says w, and it leaves the state s and the octets b
+pub record Gives (m : Channel) (c : Call) (w : Said) (s : State) (b : List ℕ) : Type 0 where
+  pub told : w ≡ says m c
+  pub state : s ≡ state_of (leaves m c)
   pub octets : b ≡ (leaves m c).memory
 
 -- ---- open
@@ -71,11 +74,8 @@ opened m1 b = record { m1 = m1; now = 0; count = 0; memory = replicate (len b) 0
 unfoldable pub open_leaves : ℕ → List ℕ → Channel
 open_leaves m1 b = answer (open_refusal m1 b) (opened m1 b) (λ _. record { m1 = 0; now = 0; count = 0; memory = b })
 
--- what open returns: the refusal, and the state handed back
-unfoldable pub open_returned : ℕ → List ℕ → Answer
-open_returned m1 b = record { refusal = open_refusal m1 b; number = 0; state = state_of (open_leaves m1 b) }
-
--- what open promises: on the octets b it returns r and leaves the octets x
-pub record OpenGives (m1 : ℕ) (b : List ℕ) (r : Answer) (x : List ℕ) : Type 0 where
-  pub result : r ≡ open_returned m1 b
+-- what open promises: on the octets b it returns r, and leaves the state s and the octets x
+pub record OpenGives (m1 : ℕ) (b : List ℕ) (r : Result (Unit {0}) Refusal) (s : State) (x : List ℕ) : Type 0 where
+  pub told : Tells r (open_refusal m1 b) tt
+  pub state : s ≡ state_of (open_leaves m1 b)
   pub octets : x ≡ (open_leaves m1 b).memory

@@ -1,19 +1,13 @@
 -- What the private functions promise: the code's own steps. Nothing that a caller of the crate has to believe.
-use Rattle.std.specs.Prelude.{ℕ, ◌+◌, ◌-◌, Bool, cond, not, List, [], ◌∷◌, ◌++◌, map, length as len, get_or, take, drop}
+use Rattle.std.specs.Prelude.{ℕ, ◌+◌, Bool, cond, List, [], ◌∷◌, ◌++◌, map, length as len, get_or, take, drop}
 use Rattle.octets.specs.Lists.{keep}
 use Rattle.octets.specs.Refusals.{first_of, answer}
 use Rattle.record.specs.Record.{blank, capacity, packed}
 use Rattle.record.specs.declared.Rec.{Rec}
-use Rattle.sound.specs.Sound.{Channel, records, lasts}
-use Rattle.table.specs.declared.Stay.{Stay}
+use Rattle.sound.specs.Sound.{Channel, records}
 use Rattle.table.specs.declared.State.{State}
-use Rattle.table.specs.declared.Answer.{Answer}
-use Rattle.table.specs.Table.{owned_by, held_tests}
+use Rattle.table.specs.Table.{held_tests}
 use Rattle.table.specs.Memory.{state_of, table_of}
-
--- by time a record that is not over at a slot, else one of another station
-unfoldable pub stays : Stay → Rec → Bool
-stays rule r = cond rule.timed (lasts rule.m1 rule.slot r) (not (owned_by rule.station r))
 
 -- a where record i passes, b where not
 abbrev pub sieved : (Rec → Bool) → List Rec → ℕ → ℕ → ℕ → ℕ
@@ -23,23 +17,14 @@ sieved p vs i a b = cond (p (get_or vs i blank)) a b
 unfoldable pub mapped : (Rec → Rec) → ℕ → List Rec → List Rec
 mapped f i vs = map f (take i vs) ++ drop i vs
 
--- the answer of a refused call
-abbrev pub refused_answer : ℕ → State → Answer
-refused_answer n s = record { refusal = n; number = 0; state = s }
+-- the state after a sweep to time t that keeps the records that pass
+abbrev pub swept : Channel → ℕ → (Rec → Bool) → State
+swept m t p = record { m1 = m.m1; now = t; count = len (keep p (records m)) }
 
--- the answer of a sweep to time t that keeps the records that pass
-abbrev pub swept : Channel → ℕ → (Rec → Bool) → Answer
-swept m t p =
-    record {
-      refusal = 0;
-      number = m.count - len (keep p (records m));
-      state = record { m1 = m.m1; now = t; count = len (keep p (records m)) };
-    }
-
--- the answer where a record is to be added
-unfoldable pub added : Channel → Rec → Answer
+-- the state where a record is to be added
+unfoldable pub added : Channel → Rec → State
 added m x =
-    answer (first_of (held_tests (table_of m) x)) (record { refusal = 0; number = 0; state = record { m1 = m.m1; now = m.now; count = m.count + 1 } }) (λ n. refused_answer n (state_of m))
+    answer (first_of (held_tests (table_of m) x)) (record { m1 = m.m1; now = m.now; count = m.count + 1 }) (λ _. state_of m)
 
 -- and the memory then
 unfoldable pub added_memory : Channel → Rec → List ℕ

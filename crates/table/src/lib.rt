@@ -1,34 +1,28 @@
 // The reservation table in lent memory: the calls.
 #![tactic(auto)]
 
-ghost use Rattle.std.specs.Prelude.{◌≡◌, true, ℕ, ◌+◌, ◌*◌, ◌≤◌, ◌<◌, ltb, length, get_or, set, take};
+ghost use Rattle.std.specs.Prelude.{◌≡◌, true, not, Bool, ℕ, ◌+◌, ◌-◌, ◌*◌, ◌≤◌, ◌<◌, ltb, length, get_or, set, take};
+ghost use Rattle.refusal.specs.Refusals.{Tells};
 ghost use Rattle.octets.specs.Lists.{keep, has, every};
 ghost use Rattle.octets.specs.Refusals.{first_of};
 ghost use Rattle.octets.specs.Complement.{lifted};
-ghost use Rattle.distance.specs.Distances as Distances;
+ghost use Rattle.record.specs.declared.Rec.{Rec};
 ghost use Rattle.record.specs.Record.{all_records, blank, capacity, rest, packed};
-ghost use Rattle.sound.specs.Sound.{records, sound};
-ghost use Rattle.table.specs.Table.{clock, reserve, distance, wipe, far_octet, same, owned_by, set_far, request_tests};
-ghost use Rattle.table.specs.Memory.{channel, Gives, OpenGives};
-ghost use Rattle.table.specs.Steps.{stays, sieved, mapped, refused_answer, swept, added, added_memory};
+ghost use Rattle.sound.specs.Sound.{records, sound, lasts};
+ghost use Rattle.table.specs.Table.{clock, reserve, distance, wipe, same, owned_by, set_far, request_tests, held_tests};
+ghost use Rattle.table.specs.Memory.{channel, table_of, call_said, Gives, OpenGives};
+ghost use Rattle.table.specs.Steps.{sieved, mapped, swept, added, added_memory};
 
 use distance::Distance;
 use record::{Rec, Zeros};
+use refusal::Refusal;
 
-// What stands beside the lent memory. It travels by value.
-#[derive(Clone, Copy)]
+// What stands beside the lent memory: all 0 where no table is open.
+#[derive(Clone, Copy, Debug, Default, PartialEq, Eq)]
 pub struct State {
     pub m1: u32,
     pub now: u32,
     pub count: u32,
-}
-
-// What a call gives: the refusal, 0 for none, the number reported, and the state from here on.
-#[derive(Clone, Copy)]
-pub struct Answer {
-    pub refusal: u32,
-    pub number: u32,
-    pub state: State,
 }
 
 // What reserve is given.
@@ -44,15 +38,6 @@ pub struct Request {
     pub limit: f64,
 }
 
-// Which records stay: by time those that are not over at a slot, in a table of m1 slots; else those of another station.
-#[derive(Clone, Copy)]
-struct Stay {
-    timed: bool,
-    station: u32,
-    m1: u32,
-    slot: u32,
-}
-
 // ---- soundness
 
 // Whether a table is sound; every call that takes one asks this first.
@@ -62,92 +47,87 @@ pub fn is_sound(s: State, memory: &[u8]) -> bool
     sound::is_sound(s.m1, s.now, s.count, memory)
 }
 
+// ---- which records stay
+
+trait Rule: Copy {
+    ghost stays: { Self → Rec → Bool };
+
+    fn stays(self, r: Rec) -> bool
+        ensures { result ≡ stays self r };
+}
+
+// Those that are not over at a slot, in a table of m1 slots.
+#[derive(Clone, Copy)]
+struct NotOver {
+    m1: u32,
+    slot: u32,
+}
+
+impl Rule for NotOver {
+    ghost stays = { λ s r. lasts s.m1 s.slot r };
+
+    fn stays(self, r: Rec) -> bool {
+        u64::from(self.slot) <= series::last_slot(r, self.m1)
+    }
+}
+
+// Those of another station.
+#[derive(Clone, Copy)]
+struct OtherThan {
+    station: u32,
+}
+
+impl Rule for OtherThan {
+    ghost stays = { λ s r. not (owned_by s.station r) };
+
+    fn stays(self, r: Rec) -> bool {
+        r.station != self.station
+    }
+}
+
 // ---- steps of the calls
 
-fn refuse(n: u32, s: State) -> Answer
-    ensures { result ≡ refused_answer n s }
-{
-    Answer {
-        refusal: n,
-        number: 0,
-        state: s,
-    }
-}
-
-fn does_stay(rule: Stay, r: Rec) -> bool
-    ensures { result ≡ stays rule r }
-{
-    if rule.timed {
-        return rule.slot as u64 <= series::last_slot(r, rule.m1);
-    }
-    r.station != rule.station
-}
-
 // Moves record i down to place k, whether it stays or not: a branch by that would often be guessed wrong. The next k.
-fn sift(memory: &mut [u8], i: usize, k: usize, rule: Stay) -> usize
+fn sift<R: Rule>(memory: &mut [u8], i: usize, k: usize, rule: R) -> usize
     requires { (k ≤ i) × (i < capacity memory.old) }
-    ensures next { result ≡ sieved (stays rule) (all_records memory.old) i (k + 1) k }
+    ensures next { result ≡ sieved (R.stays rule) (all_records memory.old) i (k + 1) k }
     ensures left { all_records memory.new ≡ set (all_records memory.old) k (get_or (all_records memory.old) i blank) }
     ensures behind { (n : ℕ) → k < n → rest n memory.new ≡ rest n memory.old }
 {
     let r = record::load(memory, i);
     record::copy(memory, i, k);
-    if does_stay(rule, r) {
+    if rule.stays(r) {
         return k + 1;
     }
     k
 }
 
 // The first of n records that goes, by its place; n where none does. Up to there nothing has to be moved.
-fn first_gone(memory: &[u8], n: usize, rule: Stay) -> usize
+fn first_gone<R: Rule>(memory: &[u8], n: usize, rule: R) -> usize
     requires { n ≤ capacity memory.now }
-    ensures { (result ≤ n) × (every (stays rule) (take result (all_records memory.now)) ≡ true) }
+    ensures { (result ≤ n) × (every (R.stays rule) (take result (all_records memory.now)) ≡ true) }
 {
-    let mut i = 0;
-    while i < n {
-        if !does_stay(rule, record::load(memory, i)) {
+    for i in 0..n {
+        if !rule.stays(record::load(memory, i)) {
             return i;
         }
-        i += 1;
     }
     n
 }
 
 // Moves those of the first n records that stay to the front, in order. How many they are.
-fn compact(memory: &mut [u8], n: usize, rule: Stay) -> usize
-    ensures kept { result ≡ length (keep (stays rule) (take n (all_records memory.old))) }
-    ensures front { take result (all_records memory.new) ≡ keep (stays rule) (take n (all_records memory.old)) }
+fn compact<R: Rule>(memory: &mut [u8], n: usize, rule: R) -> usize
+    ensures kept { result ≡ length (keep (R.stays rule) (take n (all_records memory.old))) }
+    ensures front { take result (all_records memory.new) ≡ keep (R.stays rule) (take n (all_records memory.old)) }
     ensures behind { rest n memory.new ≡ rest n memory.old }
 {
     let held = record::held_count(memory, n);
-    let mut i = first_gone(memory, held, rule);
-    let mut k = i;
-    while i < held {
+    let gone = first_gone(memory, held, rule);
+    let mut k = gone;
+    for i in gone..held {
         k = sift(memory, i, k, rule);
-        i += 1;
     }
     k
-}
-
-// Keeps the records that stay, closes the gaps and zeros the tail of a sound table, at a time: clock and wipe.
-// Behind the records that it had, the octets of a sound table are 0 already.
-fn sweep(s: State, memory: &mut [u8], time: u32, rule: Stay) -> Answer
-    requires { sound (channel s memory.old) ≡ true }
-    ensures answer { result ≡ swept (channel s memory.old) time (stays rule) }
-    ensures memory { memory.new ≡ packed (capacity memory.old) (keep (stays rule) (records (channel s memory.old))) }
-{
-    let n = s.count as usize;
-    let kept = compact(memory, n, rule);
-    record::clear_between(memory, kept, n);
-    Answer {
-        refusal: 0,
-        number: (n - kept) as u32,
-        state: State {
-            m1: s.m1,
-            now: time,
-            count: kept as u32,
-        },
-    }
 }
 
 // The station is asked first: it tells most records apart.
@@ -169,42 +149,12 @@ fn is_same(x: Rec, r: Rec) -> bool
 fn has_same(memory: &[u8], n: usize, x: Rec) -> bool
     ensures { result ≡ has (same x) (take n (all_records memory.now)) }
 {
-    let held = record::held_count(memory, n);
-    let mut i = 0;
-    while i < held {
+    for i in 0..record::held_count(memory, n) {
         if is_same(x, record::load(memory, i)) {
             return true;
         }
-        i += 1;
     }
     false
-}
-
-// Adds a record at the end of a sound table, unless it is held already or there is no room.
-fn add(s: State, memory: &mut [u8], x: Rec) -> Answer
-    requires { sound (channel s memory.old) ≡ true }
-    ensures answer { result ≡ added (channel s memory.old) x }
-    ensures memory { memory.new ≡ added_memory (channel s memory.old) x }
-{
-    let n = s.count as usize;
-    if has_same(memory, n, x) {
-        return refuse(16, s);
-    }
-    let all = record::capacity(memory);
-    if n == all {
-        return refuse(17, s);
-    }
-    record::store(memory, n, x);
-    let count = s.count + 1;
-    Answer {
-        refusal: 0,
-        number: 0,
-        state: State {
-            m1: s.m1,
-            now: s.now,
-            count,
-        },
-    }
 }
 
 // Whether a reservation's further series would begin before now. Where it has none, the sum is 128 at least.
@@ -212,52 +162,48 @@ fn begins_early(bo: u8, bs: u32, superframes: u32, m1: u32) -> bool
     requires { (bs ≤ 255) × (superframes ≤ 3) }
     ensures { result ≡ ltb (bs + superframes * m1 + lifted bo) 128 }
 {
-    let from = bs as u64 + superframes as u64 * m1 as u64 + octets::lifted(bo) as u64;
+    let from = u64::from(bs)
+        + u64::from(superframes) * u64::from(m1)
+        + u64::from(octets::lifted(bo));
     from < 128
 }
 
-// The refusal that the numbers of a request call for, 0 for none.
-fn judge_request(s: State, q: Request) -> u32
-    ensures { result ≡ first_of (request_tests s.m1 s.now q) }
+// What a request is refused for by its numbers.
+fn judge_request(s: State, q: Request) -> Result<(), Refusal>
+    ensures { Tells result (first_of (request_tests s.m1 s.now q)) tt }
 {
-    let rate = q.rate;
-    let length = q.length;
-    let bs = q.bs;
-    let bo = q.bo;
+    let Request {
+        rate,
+        length,
+        bs,
+        bo,
+        ..
+    } = q;
     if 134217728 <= q.station {
-        return 8;
+        return Err(Refusal::Address);
     }
     if (rate < 1) | (60 < rate) {
-        return 14;
+        return Err(Refusal::Rate);
     }
     if q.superframes == 0 {
-        return 15;
+        return Err(Refusal::NoSuperframes);
     }
     if (3 < q.superframes) | ((length < 1) | (32 < length)) {
-        return 9;
+        return Err(Refusal::Field);
     }
     if (bs < 2) | (255 < bs) {
-        return 5;
+        return Err(Refusal::Bs);
     }
     if (bo < -127) | (127 < bo) {
-        return 6;
+        return Err(Refusal::Bo);
     }
     if begins_early(octets::twos(bo), bs, q.superframes, s.m1) {
-        return 24;
+        return Err(Refusal::Early);
     }
-    if distance::limit_fits(q.limit) {
-        return 0;
+    if !distance::limit_fits(q.limit) {
+        return Err(Refusal::Limit);
     }
-    18
-}
-
-fn far_bit(d: Distance, limit: f64) -> u8
-    ensures { result ≡ far_octet (Distances.is_far d limit) }
-{
-    if distance::far(d, limit) {
-        return 1;
-    }
-    0
+    Ok(())
 }
 
 // Rewrites far in record i, where it is the station's. The next k.
@@ -268,21 +214,7 @@ fn mark(memory: &mut [u8], i: usize, k: usize, station: u32, far: u8) -> usize
 {
     let r = record::load(memory, i);
     if r.station == station {
-        let zeros = r.zeros;
-        record::store(
-            memory,
-            i,
-            Rec {
-                station: r.station,
-                first: r.first,
-                rate: r.rate,
-                superframes: r.superframes,
-                length: r.length,
-                far,
-                bo: r.bo,
-                zeros,
-            },
-        );
+        record::store(memory, i, Rec { far, ..r });
         return k + 1;
     }
     k
@@ -294,12 +226,9 @@ fn mark_all(memory: &mut [u8], n: usize, station: u32, far: u8) -> usize
     ensures number { result ≡ length (keep (owned_by station) (take n (all_records memory.old))) }
     ensures left { all_records memory.new ≡ mapped (set_far station far) n (all_records memory.old) }
 {
-    let held = record::held_count(memory, n);
-    let mut i = 0;
     let mut k = 0;
-    while i < held {
+    for i in 0..record::held_count(memory, n) {
         k = mark(memory, i, k, station, far);
-        i += 1;
     }
     k
 }
@@ -307,120 +236,135 @@ fn mark_all(memory: &mut [u8], n: usize, station: u32, far: u8) -> usize
 // ---- the calls
 
 impl State {
-    // Opens a table of M1 slots in lent memory. Refused, in this order: 10, 1.
-    pub fn open(memory: &mut [u8], m1: u32) -> Answer
-        ensures { OpenGives m1 memory.old result memory.new }
+    // Keeps the records that stay, closes the gaps and zeros the tail of a sound table, at a time: clock and wipe. How many went.
+    // Behind the records that it had, the octets of a sound table are 0 already. Apart, so that its loops have the registers to themselves.
+    #[inline(never)]
+    fn sweep<R: Rule>(&mut self, memory: &mut [u8], time: u32, rule: R) -> u32
+        requires { sound (channel self.old memory.old) ≡ true }
+        ensures number { result ≡ self.old.count - self.new.count }
+        ensures state { self.new ≡ swept (channel self.old memory.old) time (R.stays rule) }
+        ensures memory { memory.new ≡ packed (capacity memory.old) (keep (R.stays rule) (records (channel self.old memory.old))) }
     {
-        let none = State {
-            m1: 0,
-            now: 0,
-            count: 0,
-        };
-        if sound::m1_fits(m1) {
-            if sound::size_fits(memory) {
-                record::clear(memory, 0);
-                return Answer {
-                    refusal: 0,
-                    number: 0,
-                    state: State {
-                        m1,
-                        now: 0,
-                        count: 0,
-                    },
-                };
-            }
-            return refuse(1, none);
+        let n = self.count as usize;
+        let kept = compact(memory, n, rule);
+        record::clear_between(memory, kept, n);
+        self.now = time;
+        // `as`: no table has more than 2048 records
+        self.count = kept as u32;
+        (n - kept) as u32
+    }
+
+    // Adds a record at the end of a sound table, unless it is held already or there is no room.
+    fn add(&mut self, memory: &mut [u8], x: Rec) -> Result<(), Refusal>
+        requires { sound (channel self.old memory.old) ≡ true }
+        ensures told { Tells result (first_of (held_tests (table_of (channel self.old memory.old)) x)) tt }
+        ensures state { self.new ≡ added (channel self.old memory.old) x }
+        ensures memory { memory.new ≡ added_memory (channel self.old memory.old) x }
+    {
+        let n = self.count as usize;
+        if has_same(memory, n, x) {
+            return Err(Refusal::Held);
         }
-        refuse(10, none)
+        let all = record::capacity(memory);
+        if n == all {
+            return Err(Refusal::Full);
+        }
+        record::store(memory, n, x);
+        self.count += 1;
+        Ok(())
+    }
+
+    // Opens a table of M1 slots in lent memory. Refused, in this order: 10, 1; then no table is open.
+    pub fn open(&mut self, memory: &mut [u8], m1: u32) -> Result<(), Refusal>
+        ensures { OpenGives m1 memory.old result self.new memory.new }
+    {
+        *self = State::default();
+        if !sound::m1_fits(m1) {
+            return Err(Refusal::Figure);
+        }
+        if !sound::size_fits(memory) {
+            return Err(Refusal::Size);
+        }
+        record::clear(memory, 0);
+        self.m1 = m1;
+        Ok(())
     }
 
     // Sets now and drops the records that are over; reports how many. Refused, in this order: 11, 12, 13.
-    pub fn clock(self, memory: &mut [u8], slot: u32) -> Answer
-        ensures { Gives (channel self memory.old) (clock slot) result memory.new }
+    pub fn clock(&mut self, memory: &mut [u8], slot: u32) -> Result<u32, Refusal>
+        ensures { Gives (channel self.old memory.old) (clock slot) (call_said result) self.new memory.new }
     {
-        if is_sound(self, memory) {
-            if slot < self.now {
-                return refuse(12, self);
-            }
-            if 1000000000 < slot {
-                return refuse(13, self);
-            }
-            let live = Stay {
-                timed: true,
-                station: 0,
-                m1: self.m1,
-                slot,
-            };
-            return sweep(self, memory, slot, live);
+        if !is_sound(*self, memory) {
+            return Err(Refusal::NotSound);
         }
-        refuse(11, self)
+        if slot < self.now {
+            return Err(Refusal::Behind);
+        }
+        if 1000000000 < slot {
+            return Err(Refusal::Late);
+        }
+        let m1 = self.m1;
+        Ok(self.sweep(memory, slot, NotOver { m1, slot }))
     }
 
     // Adds one record at the end. Refused, in this order: 11, 8, 14, 15, 9, 5, 6, 24, 18, 16, 17.
-    pub fn reserve(self, memory: &mut [u8], q: Request) -> Answer
-        ensures { Gives (channel self memory.old) (reserve q) result memory.new }
+    pub fn reserve(&mut self, memory: &mut [u8], q: Request) -> Result<u32, Refusal>
+        ensures { Gives (channel self.old memory.old) (reserve q) (call_said result) self.new memory.new }
     {
-        if is_sound(self, memory) {
-            let n = judge_request(self, q);
-            if n == 0 {
-                let d = q.distance;
-                let far = far_bit(d, q.limit);
-                let x = Rec {
-                    station: q.station,
-                    first: self.now + q.bs,
-                    rate: q.rate as u8,
-                    superframes: q.superframes as u8,
-                    length: q.length as u8,
-                    far,
-                    bo: octets::twos(q.bo),
-                    zeros: Zeros { a: 0, b: 0, c: 0 },
-                };
-                return add(self, memory, x);
-            }
-            return refuse(n, self);
+        if !is_sound(*self, memory) {
+            return Err(Refusal::NotSound);
         }
-        refuse(11, self)
+        judge_request(*self, q)?;
+        let x = Rec {
+            station: q.station,
+            first: self.now + q.bs,
+            rate: q.rate as u8,
+            superframes: q.superframes as u8,
+            length: q.length as u8,
+            far: u8::from(distance::far(q.distance, q.limit)),
+            bo: octets::twos(q.bo),
+            zeros: Zeros { a: 0, b: 0, c: 0 },
+        };
+        self.add(memory, x)?;
+        Ok(0)
     }
 
     // Rewrites far in all the station's records; reports how many it has. Refused, in this order: 11, 8, 18.
-    pub fn distance(self, memory: &mut [u8], station: u32, d: Distance, limit: f64) -> Answer
-        ensures { Gives (channel self memory.old) (distance station d limit) result memory.new }
+    pub fn distance(
+        &mut self,
+        memory: &mut [u8],
+        station: u32,
+        d: Distance,
+        limit: f64,
+    ) -> Result<u32, Refusal>
+        ensures { Gives (channel self.old memory.old) (distance station d limit) (call_said result) self.new memory.new }
     {
-        if is_sound(self, memory) {
-            if 134217728 <= station {
-                return refuse(8, self);
-            }
-            if distance::limit_fits(limit) {
-                let far = far_bit(d, limit);
-                let n = self.count as usize;
-                let k = mark_all(memory, n, station, far);
-                return Answer {
-                    refusal: 0,
-                    number: k as u32,
-                    state: self,
-                };
-            }
-            return refuse(18, self);
+        if !is_sound(*self, memory) {
+            return Err(Refusal::NotSound);
         }
-        refuse(11, self)
+        if 134217728 <= station {
+            return Err(Refusal::Address);
+        }
+        if !distance::limit_fits(limit) {
+            return Err(Refusal::Limit);
+        }
+        let far = u8::from(distance::far(d, limit));
+        let k = mark_all(memory, self.count as usize, station, far);
+        // `as`: no more than the count
+        Ok(k as u32)
     }
 
     // Removes the station's records; reports how many. Refused, in this order: 11, 8.
-    pub fn wipe(self, memory: &mut [u8], station: u32) -> Answer
-        ensures { Gives (channel self memory.old) (wipe station) result memory.new }
+    pub fn wipe(&mut self, memory: &mut [u8], station: u32) -> Result<u32, Refusal>
+        ensures { Gives (channel self.old memory.old) (wipe station) (call_said result) self.new memory.new }
     {
-        if is_sound(self, memory) {
-            if 134217728 <= station {
-                return refuse(8, self);
-            }
-            let other = Stay {
-                timed: false,
-                station,
-                m1: self.m1,
-                slot: self.now,
-            };
-            return sweep(self, memory, self.now, other);
+        if !is_sound(*self, memory) {
+            return Err(Refusal::NotSound);
         }
-        refuse(11, self)
+        if 134217728 <= station {
+            return Err(Refusal::Address);
+        }
+        let now = self.now;
+        Ok(self.sweep(memory, now, OtherThan { station }))
     }
 }

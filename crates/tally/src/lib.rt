@@ -13,22 +13,11 @@ pub struct Tally {
     pub refused: u32,
 }
 
-// Where each count stops.
-const MOST: u32 = 4294967295;
-
-// 1 where it holds, else 0.
-fn one_if(holds: bool) -> u32
-    ensures { result ≡ cond holds 1 0 }
-{
-    if holds { 1 } else { 0 }
-}
-
-// One more, where the call counts here. A sum takes no branch: which calls are refused, no processor can guess.
+// One more, up to the largest u32, where the call counts here. A sum takes no branch: which calls are refused, no processor can guess.
 fn raised(n: u32, counts: bool) -> u32
     ensures { result ≡ cond counts (one_more n) n }
 {
-    let room = n < MOST;
-    n + one_if(counts & room)
+    n.saturating_add(u32::from(counts))
 }
 
 // The tally after a call.
@@ -42,7 +31,7 @@ fn counted(t: Tally, refusal: u32) -> Tally
     }
 }
 
-// Counts a call by its refusal number, 0 being accepted.
+// Counts a call by its refusal number, 0 being accepted: the number that a C host was told, whatever it is.
 pub fn count(tally: &mut Tally, refusal: u32)
     ensures { tally.new ≡ counted tally.old refusal }
 {

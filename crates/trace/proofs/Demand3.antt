@@ -6,6 +6,7 @@ use mathlib.Core.Bool.{true}
 use mathlib.Core.List.{List, [], ◌∷◌}
 use lib.Dec.{leb}
 use borrow.Author.Tests.{leb-true, ne_eqb}
+use Rattle.std.proofs.Common.{Ok}
 use Rattle.octets.specs.Refusals.{answer}
 use Rattle.octets.proofs.Lists.{keep-every, every-sub}
 use Rattle.octets.proofs.Refusals.{answer-refused, by_test, answer_elim}
@@ -13,9 +14,9 @@ use Rattle.record.specs.Record.{capacity}
 use Rattle.record.specs.declared.Rec.{Rec}
 use Rattle.sound.specs.Sound.{Channel, sound, in_range}
 use Rattle.sound.proofs.Ranges.{ranges}
-use Rattle.table.specs.declared.Answer.{Answer}
+use Rattle.table.specs.declared.State.{State}
 use Rattle.table.specs.Table.{Table, Said, Call, clock, reserve, distance, wipe, look, changed, reported, with_records}
-use Rattle.table.specs.Memory.{channel, table_of, channel_of, call_refusal, acts, leaves, says, returned, open_refusal, opened, open_leaves, open_returned, OpenGives}
+use Rattle.table.specs.Memory.{channel, table_of, channel_of, call_refusal, acts, leaves, says, open_refusal, opened, open_leaves, OpenGives}
 use Rattle.table.proofs.Calls.{call_refusal-sound, refused-leaves}
 use Rattle.trace.specs.Machine.{Machine, runs, Settles, Refines}
 use Rattle.trace.specs.Sequences.{on_octets, Called, only, without, WithoutTrace, MadeWithoutTrace}
@@ -79,22 +80,21 @@ made_untraced k p s A d cs t u v es fs w ms q mt r =
 
 -- a table call's promise does
 pub settled : Settles on_octets Called
-unfolding returned
 settled m n c w q =
     let g = q.promised in
-    (q.left ∙ rw (g.result, g.octets), q.said ∙ rw g.result)
+    (q.left ∙ rw (g.state, g.octets), g.told)
 
 -- an accepted opening's promise settles the table that it leaves
-open_settled : (m1 : ℕ) (b : List ℕ) (o : Answer) (z : List ℕ) → OpenGives m1 b o z → o.refusal ≡ 0
-    → (open_refusal m1 b ≡ 0) × (channel o.state z ≡ opened m1 b)
-unfolding open_returned open_leaves answer
-open_settled m1 b o z g e =
-    let f : open_refusal m1 b ≡ 0 = sym (ap (λ u. u.refusal) g.result) ∙ e in
-    (f, rw (g.result, g.octets, f))
+open_settled : (m1 : ℕ) (b : List ℕ) (s : State) (z : List ℕ) → OpenGives m1 b (Ok tt) s z
+    → (open_refusal m1 b ≡ 0) × (channel s z ≡ opened m1 b)
+unfolding open_leaves answer
+open_settled m1 b s z g =
+    let f : open_refusal m1 b ≡ 0 = g.told.0 in
+    (f, rw (g.state, g.octets, f))
 
 pub real_calls : RealCalls
-real_calls m1 b o z g e A =
-    let i = open_settled m1 b o z g e in
+real_calls m1 b s z g A =
+    let i = open_settled m1 b s z g in
     rw i.1 (made_untraced on_octets settled (opened m1 b) A (wiped_without_trace m1 b i.0 A))
 
 -- ---- soundness
@@ -135,4 +135,4 @@ unfolding says
 refused_changes_nothing m c h = (sym (refused-leaves m c h), sym (answer-refused (reported (table_of m) c) (λ _. 0) refl h))
 
 pub one_result : OneResult
-one_result s b c r q x y g h = (g.result ∙ sym h.result, g.octets ∙ sym h.octets)
+one_result s b c w v t u x y g h = (g.told ∙ sym h.told, g.state ∙ sym h.state, g.octets ∙ sym h.octets)

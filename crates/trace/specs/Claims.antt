@@ -1,5 +1,6 @@
 -- What is claimed of the calls together, besides each function's promise. `claims` in src/lib.rt promises all of it.
-use Rattle.std.specs.Prelude.{ℕ, ◌≡◌, true, List, [], ◌∷◌, pos}
+use Rattle.std.specs.Prelude.{ℕ, ◌≡◌, true, List, [], ◌∷◌, Result, Ok, pos}
+use Rattle.refusal.specs.declared.Refusal.{Refusal}
 use Rattle.octets.specs.Octets.{AreOctets}
 use Rattle.octets.specs.Refusals.{first_of}
 use Rattle.distance.specs.declared.Distance.TheVariants.{Unknown}
@@ -7,10 +8,9 @@ use Rattle.distance.specs.Distances.{num}
 use Rattle.record.specs.Record.{packed}
 use Rattle.sound.specs.Sound.{Channel, sound}
 use Rattle.table.specs.declared.State.{State}
-use Rattle.table.specs.declared.Answer.{Answer}
 use Rattle.table.specs.declared.Request.{Request}
-use Rattle.table.specs.Table.{Table, Call, reserve, wipe, call_tests}
-use Rattle.table.specs.Memory.{channel, table_of, channel_of, leaves, says, Gives, open_refusal, opened, OpenGives}
+use Rattle.table.specs.Table.{Table, Said, Call, reserve, wipe, call_tests}
+use Rattle.table.specs.Memory.{channel, table_of, channel_of, leaves, says, call_said, Gives, open_refusal, opened, OpenGives}
 use Rattle.trace.specs.Machine.{runs, Refines}
 use Rattle.trace.specs.Sequences.{on_octets, Called, only, without, WithoutTrace, MadeWithoutTrace}
 use Rattle.trace.specs.Records.{Sound, on_records}
@@ -35,10 +35,10 @@ Refined = Refines on_octets on_records channel_of Sound
 abbrev pub WipedWithoutTrace : Type 0
 WipedWithoutTrace = (m1 : ℕ) (b : List ℕ) → open_refusal m1 b ≡ 0 → (A : ℕ) → WithoutTrace on_octets (opened m1 b) A
 
--- The same over real calls: an opening that returned o and left z, and calls that gave what the functions promise.
+-- The same over real calls: an opening that was accepted and left the state s and the octets z, and calls that gave what the functions promise.
 abbrev pub RealCalls : Type 0
 RealCalls =
-    (m1 : ℕ) (b : List ℕ) (o : Answer) (z : List ℕ) → OpenGives m1 b o z → o.refusal ≡ 0 → (A : ℕ) → MadeWithoutTrace Called (channel o.state z) A
+    (m1 : ℕ) (b : List ℕ) (s : State) (z : List ℕ) → OpenGives m1 b (Ok tt) s z → (A : ℕ) → MadeWithoutTrace Called (channel s z) A
 
 -- ---- soundness
 
@@ -62,11 +62,15 @@ NeverUnsound =
 abbrev pub RefusedChangesNothing : Type 0
 RefusedChangesNothing = (m : Channel) (c : Call) → ((says m c).refusal ≡ 0 → ⊥) → (leaves m c ≡ m) × ((says m c).number ≡ 0)
 
--- any two results that a call's promise allows are equal: what it returns, and the memory at exit
+-- any two results that a call's promise allows are equal: what it says, and the state and the memory at exit
 abbrev pub OneResult : Type 0
 OneResult =
-    (s : State) (b : List ℕ) (c : Call) (r q : Answer) (x y : List ℕ)
-    → Gives (channel s b) c r x → Gives (channel s b) c q y → (r ≡ q) × (x ≡ y)
+    (s : State) (b : List ℕ) (c : Call) (w v : Said) (t u : State) (x y : List ℕ)
+    → Gives (channel s b) c w t x → Gives (channel s b) c v u y → (w ≡ v) × (t ≡ u) × (x ≡ y)
+
+-- and what a result says tells which it is
+abbrev pub SaidOnce : Type 0
+SaidOnce = (r q : Result ℕ Refusal) → call_said r ≡ call_said q → r ≡ q
 
 -- ---- why demand 3 has its premise
 
@@ -99,4 +103,5 @@ pub record Claims : Type 0 where
   pub never_unsound : NeverUnsound
   pub refused_changes_nothing : RefusedChangesNothing
   pub one_result : OneResult
+  pub said_once : SaidOnce
   pub premise_needed : PremiseNeeded

@@ -2,7 +2,7 @@
 use Rattle.std.specs.Prelude.{ℕ, ◌≡◌, Bool, true, false, not, ◌&&◌, List, eqb}
 use Rattle.octets.specs.Lists.{keep, every}
 use Rattle.sound.specs.Sound.{Channel}
-use Rattle.table.specs.declared.Answer.{Answer}
+use Rattle.table.specs.declared.State.{State}
 use Rattle.table.specs.Table.{Said, Call, clock, reserve, distance, wipe, look}
 use Rattle.table.specs.Memory.{channel, leaves, says, Gives}
 use Rattle.trace.specs.Machine.{Machine, runs, transcript, Made}
@@ -13,19 +13,14 @@ use Rattle.trace.specs.Machine.{Machine, runs, transcript, Made}
 abbrev pub on_octets : Machine Channel Call Said
 on_octets = record { leaves = leaves; says = says }
 
--- the answer in what a function returns
-abbrev pub call_said : Answer → Said
-call_said r = record { refusal = r.refusal; number = r.number }
-
 -- A real call: the function returned and left what it promises, and no more is known. It said what the result says, and left the
--- state in the result with the octets. (A slot state or a search is lent memory that it cannot change, and returns no state: here it
--- hands back the one it was given.)
+-- state with the octets. (A slot state or a search is lent memory that it cannot change, and is given the state by value: here it
+-- leaves the one it was given.)
 pub record Called (m : Channel) (c : Call) (w : Said) (n : Channel) : Type 0 where
-  pub result : Answer
+  pub state : State
   pub octets : List ℕ
-  pub promised : Gives m c result octets
-  pub said : w ≡ call_said result
-  pub left : n ≡ channel result.state octets
+  pub promised : Gives m c w state octets
+  pub left : n ≡ channel state octets
 
 -- ---- whose calls they are
 

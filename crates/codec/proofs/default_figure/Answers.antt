@@ -1,18 +1,22 @@
 -- `codec::default_figure` meets its contract: what follows from the row. Assumes nothing.
-use mathlib.Core.Path.{sym, ◌∙◌}
-use mathlib.Core.List.{[]}
+use mathlib.Core.Path.{sym, ◌∙◌, ap}
+use Rattle.std.proofs.lemmas.Result.{err_from_is_err_and}
+use Rattle.refusal.specs.Refusals.{number_of}
 use Rattle.codec.specs.Parameters.{default_lookup}
-use Rattle.codec.specs.Rates.{refused_lookup}
-use Rattle.codec.specs.Steps.{columns}
-use Rattle.codec.proofs.Parameters.{known, unknown-none}
+use Rattle.codec.specs.Rates.{Lookup, refused_lookup}
+use Rattle.codec.proofs.Parameters.{found_row, lost_row, unknown-none}
 use Rattle.codec.proofs.default_figure.Goals as goal
 
-pub returns-then-number : goal.returns-then-number
+pub returns-in_err-row_of : goal.returns-in_err-row_of
 unfolding default_lookup
-returns-then-number c = c.refused_lookup.ensures ∙ sym (unknown-none _ c.if-number.true _ _)
+returns-in_err-row_of c =
+    let p = err_from_is_err_and c.from_residual.result c.from_residual.ensures.1 in
+    let l = lost_row _ _ c.in_err-row_of.ensures in
+    rw (p.1, p.2) (ap (λ (x : Lookup). x.refusal) (unknown-none _ l.0 _ _) ∙ sym (ap number_of l.1))
 
 pub returns : goal.returns
 unfolding default_lookup
 returns c =
-    let k = known c.args.number c.if-number.false in
-    rw (c.row-r.ensures ∙ k.follows columns [], k.follows (λ row. record { refusal = 0; number = row.default }) (refused_lookup 22))
+    let r = found_row _ _ c.in_ok-row_of.ensures in
+    let f = r.follows (λ row. record { refusal = 0; number = row.default }) (refused_lookup 22) in
+    (ap (λ (x : Lookup). x.refusal) f, sym (ap (λ (x : Lookup). x.number) f))

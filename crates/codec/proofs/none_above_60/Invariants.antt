@@ -1,8 +1,8 @@
-use Prim.Native.Nat.{ℕ, ◌-◌}
+use Prim.Native.Nat.{ℕ}
 use mathlib.Core.Path.{◌≡◌}
 use mathlib.Core.Bool.{Bool, ◌&&◌}
 use lib.Dec.{leb}
-use lib.ListN.{length, drop}
+use lib.ListN.{drop}
 use Rattle.octets.specs.Lists.{every}
 use Rattle.codec.proofs.none_above_60.Given as goal
 
@@ -10,8 +10,5 @@ use Rattle.codec.proofs.none_above_60.Given as goal
 abbrev pub low : ℕ → Bool
 low x = leb x 60
 
-abbrev pub invariant-loop-i : goal.invariant-loop-i
-invariant-loop-i l = every low l.rates ≡ (l.so_far && every low (drop l.i l.rates))
-
-abbrev pub decreases-loop-i : goal.decreases-loop-i
-decreases-loop-i l = length l.rates - l.i
+abbrev pub invariant-loop-rate : goal.invariant-loop-rate
+invariant-loop-rate l = every low l.rates ≡ (l.so_far && every low (drop l.rate-index l.rates))

@@ -1,49 +1,47 @@
 -- `codec::parameter` meets its contract: each `return` rewrites by the tests that led there; each row has a step. Assumes nothing.
-use mathlib.Core.Path.{◌≡◌, ◌∙◌}
+use mathlib.Core.Path.{◌≡◌, refl, sym, ap}
 use mathlib.Core.Bool.{false, not}
-use mathlib.Core.List.{[]}
 use borrow.Author.Tests.{eq-eqb, ne_eqb}
-use Rattle.octets.proofs.Refusals.{outside-false}
+use Rattle.std.proofs.lemmas.Result.{err_from_is_err_and}
+use Rattle.refusal.specs.Refusals.{number_of}
 use Rattle.codec.specs.Parameters.{by_row, fits, parameter_tests}
-use Rattle.codec.specs.Steps.{columns}
-use Rattle.codec.proofs.Parameters.{Known, known}
+use Rattle.codec.proofs.Parameters.{HasRow, found_row, lost_row}
 use Rattle.codec.proofs.parameter.Goals as goal
-use Rattle.codec.proofs.parameter.Goals.{After-row-r}
+use Rattle.codec.proofs.parameter.Goals.{In_ok-row}
 
-module _ (c : After-row-r) where
-  -- the number has a row
-  abbrev its : Known c.args.number
-  its = known _ c.if-number.false
-
-  -- and it is this one
-  in-columns : c.row-r.result ≡ columns its.row
-  in-columns = c.row-r.ensures ∙ its.follows columns []
+module _ (c : In_ok-row) where
+  -- the number has the row
+  abbrev its : HasRow c.args.number c.in_ok-row.row
+  its = found_row _ _ c.in_ok-row.ensures
 
   -- which 10 goes by
-  follows : by_row c.args.number (λ row. not (fits row c.args.figure)) false ≡ not (fits its.row c.args.figure)
+  follows : by_row c.args.number (λ row. not (fits row c.args.figure)) false ≡ not (fits c.in_ok-row.row c.args.figure)
   follows = its.follows (λ row. not (fits row c.args.figure)) false
 
-pub returns-then-number : goal.returns-then-number
+pub returns-in_err-row : goal.returns-in_err-row
 unfolding parameter_tests
-returns-then-number c = rw c.if-number.true
+returns-in_err-row c =
+    let p = err_from_is_err_and c.from_residual.result c.from_residual.ensures.1 in
+    let l = lost_row _ _ c.in_err-row.ensures in
+    rw (p.1, p.2) (rw l.0 (sym (ap number_of l.1)))
 
-pub returns-then-figure-low : goal.returns-then-figure-low
+pub returns-then-figure-row : goal.returns-then-figure-row
 unfolding parameter_tests fits
-returns-then-figure-low c =
-    rw (c.if-number.false, follows (goal.at.returns-then-figure-low c).After-row-r, rw (in-columns (goal.at.returns-then-figure-low c).After-row-r) at c.if-figure-low.true)
-
-pub overflow_sub-figure : goal.overflow_sub-figure
-overflow_sub-figure c = (outside-false _ _ _ c.if-figure-low.false).0
+returns-then-figure-row c =
+    let at = (goal.at.returns-then-figure-row c).In_ok-row in
+    rw ((its at).known, follows at, c.if-figure-row.true) refl
 
 pub nonzero_rem-figure : goal.nonzero_rem-figure
-nonzero_rem-figure c = rw (in-columns (goal.at.nonzero_rem-figure c).After-row-r) (its (goal.at.nonzero_rem-figure c).After-row-r).stepped
+nonzero_rem-figure c = (its (goal.at.nonzero_rem-figure c).In_ok-row).stepped
 
-pub returns-then-figure-low-ne0 : goal.returns-then-figure-low-ne0
+pub returns-then-figure-row-ne0 : goal.returns-then-figure-row-ne0
 unfolding parameter_tests fits
-returns-then-figure-low-ne0 c =
-    rw (c.if-number.false, follows (goal.at.returns-then-figure-low-ne0 c).After-row-r, rw (in-columns (goal.at.returns-then-figure-low-ne0 c).After-row-r) at c.if-figure-low.false, ne_eqb _ _ (rw (in-columns (goal.at.returns-then-figure-low-ne0 c).After-row-r) at c.if-figure-low-ne0.true))
+returns-then-figure-row-ne0 c =
+    let at = (goal.at.returns-then-figure-row-ne0 c).In_ok-row in
+    rw ((its at).known, follows at, c.if-figure-row.false, ne_eqb _ _ c.if-figure-row-ne0.true) refl
 
 pub returns : goal.returns
 unfolding parameter_tests fits
 returns c =
-    rw (c.if-number.false, follows (goal.at.returns c).After-row-r, rw (in-columns (goal.at.returns c).After-row-r) at c.if-figure-low.false, eq-eqb _ _ (rw (in-columns (goal.at.returns c).After-row-r) at c.if-figure-low-ne0.false))
+    let at = (goal.at.returns c).In_ok-row in
+    rw ((its at).known, follows at, c.if-figure-row.false, eq-eqb _ _ c.if-figure-row-ne0.false) (refl, refl)

@@ -9,12 +9,14 @@ use lib.Dec.{eqb}
 use Rattle.octets.specs.Complement.{beyond127}
 use Rattle.octets.specs.Refusals.{first_of, outside}
 use Rattle.octets.proofs.Complement.{beyond127-signed_of}
-use Rattle.octets.proofs.Refusals.{answer-refused, answer_accepted}
+use Rattle.std.proofs.Common.{Ok, Err}
+use Rattle.refusal.specs.declared.Refusal.TheVariants.{Size, ExtendedId, Code, Roff, Bs, Bo}
+use Rattle.refusal.specs.Refusals.{Tells}
 use Rattle.codec.specs.declared.Destination.{Destination}
 use Rattle.codec.specs.declared.Destination.TheVariants.{Address, NoRebroadcast}
 use Rattle.codec.specs.declared.Block.{Block}
 use Rattle.codec.specs.NineOctets.{octet, destination_of, block_with, block_of, bad_code, field_tests, read_tests, reading}
-use Rattle.codec.proofs.Tests.{read_1, read_2, read_fields, field_3, field_4, field_5, field_6, field_0, octet_low, octet_inside}
+use Rattle.codec.proofs.Tests.{read_1, read_2, read_fields, field_3, field_4, field_5, field_6, field_0, octet_low, octet_inside, tells_reading}
 use Rattle.codec.proofs.read.Goals as goal
 use Rattle.codec.proofs.read.Goals.{After-bad_code, Else-bad_code, Else-octets-lt2, Else-octets-lt2-2, After-shared_slice_known-6-1, Else-octets}
 
@@ -55,54 +57,46 @@ accept :
     (s : List ℕ) {d : Destination} {b : Block} → 0 ≡ first_of (read_tests s)
     → b ≡ block_with d s
     → d ≡ destination_of s
-    → record { refusal = 0; block = b } ≡ reading s
-accept s none e f = rw (e, f) (answer_accepted _ _ none)
+    → Tells (Ok b) (reading s).refusal (reading s).block
+accept s none e f = tells_reading s (Ok _) (sym none, e ∙ ap (λ d. block_with d s) f)
 
 pub returns-then-octets-ne9 : goal.returns-then-octets-ne9
-returns-then-octets-ne9 c =
-    c.refused_reading.ensures ∙ answer-refused _ _ (read_1 _ c.if-octets-ne9.true) (omega arith)
+returns-then-octets-ne9 c = tells_reading c.args.octets.now (Err Size) (sym (read_1 _ c.if-octets-ne9.true))
 
 pub returns-then-extended_id-ne2 : goal.returns-then-extended_id-ne2
 returns-then-extended_id-ne2 c =
-    c.refused_reading-then-extended_id-ne2.ensures
-    ∙ answer-refused _ _
-    (read_2 _ c.if-octets-ne9.false (λ e. c.if-extended_id-ne2.true (c.extended_id.ensures ∙ e)))
-    (omega arith)
+    tells_reading c.args.octets.now (Err ExtendedId) (sym (read_2 _ c.if-octets-ne9.false (λ e. c.if-extended_id-ne2.true (c.extended_id.ensures ∙ e))))
 
 pub returns-then-bad_code : goal.returns-then-bad_code
 returns-then-bad_code c =
     let at = goal.at.returns-then-bad_code c in
     let bad = ap bad_code (sym c.rate_code-br.ensures) ∙ sym c.bad_code.ensures ∙ c.if-bad_code.true in
-    c.refused_reading-then-bad_code.ensures
-    ∙ answer-refused _ _ (field_3 (block_of c.args.octets.now) bad ∙ by_fields at.After-bad_code) (omega arith)
+    tells_reading c.args.octets.now (Err Code) (sym (field_3 (block_of c.args.octets.now) bad ∙ by_fields at.After-bad_code))
 
 pub returns-then-octets-lt2 : goal.returns-then-octets-lt2
 returns-then-octets-lt2 c =
     let at = goal.at.returns-then-octets-lt2 c in
-    c.refused_reading-then-octets-lt2.ensures
-    ∙ answer-refused _ _
+    tells_reading c.args.octets.now (Err Roff)
+    (sym
     (field_4 (block_of c.args.octets.now) (good_code at.Else-bad_code) (octet_low _ c.if-octets-lt2.true)
-    ∙ by_fields at.After-bad_code)
-    (omega arith)
+    ∙ by_fields at.After-bad_code))
 
 pub returns-then-octets-lt2-2 : goal.returns-then-octets-lt2-2
 returns-then-octets-lt2-2 c =
     let at = goal.at.returns-then-octets-lt2-2 c in
-    c.refused_reading-then-octets-lt2-2.ensures
-    ∙ answer-refused _ _
+    tells_reading c.args.octets.now (Err Bs)
+    (sym
     (field_5 (block_of c.args.octets.now) (good_code at.Else-bad_code) (good_roff at.Else-octets-lt2) (octet_low _ c.if-octets-lt2-2.true)
-    ∙ by_fields at.After-bad_code)
-    (omega arith)
+    ∙ by_fields at.After-bad_code))
 
 pub returns-then-octets : goal.returns-then-octets
 returns-then-octets c =
     let at = goal.at.returns-then-octets c in
     let bad = offset at.After-shared_slice_known-6-1 ∙ eq-eqb _ _ c.if-octets.true in
-    c.refused_reading-then-octets.ensures
-    ∙ answer-refused _ _
+    tells_reading c.args.octets.now (Err Bo)
+    (sym
     (field_6 (block_of c.args.octets.now) (good_code at.Else-bad_code) (good_roff at.Else-octets-lt2) (good_bs at.Else-octets-lt2-2) bad
-    ∙ by_fields at.After-bad_code)
-    (omega arith)
+    ∙ by_fields at.After-bad_code))
 
 pub returns-then-octets-2 : goal.returns-then-octets-2
 returns-then-octets-2 c =

@@ -1,14 +1,16 @@
--- `codec::write` meets its contract: each answer by the law for its refusal; what is not refused fits. Assumes nothing.
-use mathlib.Core.Path.{sym, ◌∙◌}
-use Rattle.octets.proofs.Refusals.{answer-refused, answer_accepted}
-use Rattle.codec.proofs.Tests.{write_passed}
+-- `codec::write` meets its contract: what its tests tell; what is not refused fits. Assumes nothing.
+use Rattle.std.proofs.Common.{Ok}
+use Rattle.std.proofs.lemmas.Result.{err_from_is_err_and}
+use Rattle.codec.proofs.Tests.{write_passed, tells_writing}
 use Rattle.codec.proofs.write.Goals as goal
 
-pub returns-then-n-ne0 : goal.returns-then-n-ne0
-returns-then-n-ne0 c = answer-refused _ _ c.judge_block-n.ensures c.if-n-ne0.true
+pub returns-in_err-judge_block : goal.returns-in_err-judge_block
+returns-in_err-judge_block c =
+    let p = err_from_is_err_and c.from_residual.result c.from_residual.ensures.1 in
+    tells_writing _ _ (rw (p.1, p.2) c.in_err-judge_block.ensures)
 
-pub store-o-requires : goal.store-o-requires
-store-o-requires c = (write_passed _ (sym c.judge_block-n.ensures ∙ c.if-n-ne0.false)).0
+pub store-requires : goal.store-requires
+store-requires c = (write_passed _ c.in_ok-judge_block.ensures.0).0
 
 pub returns : goal.returns
-returns c = rw c.store-o.ensures (answer_accepted _ _ (sym c.if-n-ne0.false ∙ c.judge_block-n.ensures))
+returns c = tells_writing c.args.b (Ok _) (c.in_ok-judge_block.ensures.0, c.store.ensures)

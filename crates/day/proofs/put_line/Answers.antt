@@ -1,10 +1,9 @@
--- `day::put_line` meets its contract: the first i octets of the line are put. Assumes nothing.
-use mathlib.Core.Path.{refl}
+-- `day::put_line` meets its contract: the line copied over a part of the text is put there. Assumes nothing.
 use native.Mathlib.Omega.{arith}
-use Rattle.lines.proofs.Wrote.{text_next}
+use Rattle.lines.proofs.Wrote.{part_wrote}
 use Rattle.day.proofs.put_line.Goals as goal
 
-pub loop-i-preserved : goal.loop-i-preserved
-loop-i-preserved c =
-    let o = c.args.line.octets in
-    (omega arith, text_next o c.loop-i.i c.loop-i.invariant.1 (omega (arith, c.requires.1)) (record { place = omega arith; holds = refl }))
+pub returns : goal.returns
+returns c =
+    rw (c.copy_from_slice.ensures.after, c.as_slice-octets.ensures.text)
+    (part_wrote c.args.text.now c.args.line c.args.at _ (omega arith) c.requires)

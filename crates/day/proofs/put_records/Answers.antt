@@ -8,4 +8,4 @@ pub loop-i-preserved : goal.loop-i-preserved
 loop-i-preserved c =
     let line = c.record_line-line.ensures in
     let all = length-all_records c.args.memory.now in
-    (omega arith, shown_next (omega (arith, all)) c.loop-i.invariant.1 (rw c.load.ensures at line.0) line.1 c.put_line-end.ensures)
+    shown_next (omega (arith, all)) c.loop-i.invariant (rw c.load.ensures at line.0) line.1 c.put_line-end.ensures

@@ -4,4 +4,5 @@ use Rattle.day.proofs.replay_one.Goals as goal
 
 pub returns : goal.returns
 returns c =
-    stepped c.step-a.ensures.answer c.step-a.ensures.memory c.said_line-line.ensures.0 c.said_line-line.ensures.1 c.put_line-length.ensures
+    let g = c.step-said.ensures in
+    stepped c.step-said.result g.answer g.state g.memory c.told_line-line.ensures.0 c.told_line-line.ensures.1 c.put_line-length.ensures

@@ -1,14 +1,10 @@
--- `gemthatch::gemthatch_rate` meets its contract: what the lookup finds, as one number. Assumes nothing.
-use mathlib.Core.Path.{ap, ◌∙◌}
-use Rattle.codec.specs.declared.Lookup.{Lookup}
-use Rattle.gemthatch.specs.OverC.{over_c}
-use Rattle.gemthatch.proofs.Most.{rate_most}
+-- `gemthatch::gemthatch_rate` meets its contract: what the lookup tells, as one number. Assumes nothing.
+use mathlib.Core.Path.{◌∙◌}
+use Rattle.codec.specs.Rates.{rate_lookup}
+use Rattle.gemthatch.proofs.Numbers.{told_number}
 use Rattle.gemthatch.proofs.gemthatch_rate.Goals as goal
 
-pub over_c-requires : goal.over_c-requires
-over_c-requires c =
-    let a = c.args in
-    rw c.rate-f.ensures (rate_most a.rates.now a.code)
-
 pub returns : goal.returns
-returns c = c.over_c.ensures ∙ ap (λ (f : Lookup). over_c f.refusal f.number) c.rate-f.ensures
+returns c =
+    let f = rate_lookup c.args.rates.now c.args.code in
+    c.over_c.ensures ∙ told_number c.rate.result f.refusal f.number c.rate.ensures

@@ -1,15 +1,14 @@
 -- `gemthatch::gemthatch_read` meets its contract: a refused reading is the one that its refusal calls for. Assumes nothing.
-use mathlib.Core.Path.{ap, ◌∙◌}
+use mathlib.Core.Path.{◌≡◌, refl, sym, ◌∙◌}
+use Rattle.refusal.specs.Refusals.{number_of}
+use Rattle.refusal.proofs.Numbers.{numbered}
 use Rattle.octets.proofs.Refusals.{answer-refused}
-use Rattle.codec.specs.declared.Reading.{Reading}
+use Rattle.codec.specs.NineOctets.{refused_reading, reading}
 use Rattle.codec.proofs.Tests.{reading_refusal}
-use Rattle.gemthatch.specs.OverC.{host_reading}
 use Rattle.gemthatch.proofs.gemthatch_read.Goals as goal
 
-pub returns-then-refusal-ne0 : goal.returns-then-refusal-ne0
-returns-then-refusal-ne0 c =
-    let refused = answer-refused _ _ (ap (λ (x : Reading). x.refusal) c.read-r.ensures ∙ reading_refusal _) c.if-refusal-ne0.true in
-    c.host_reading.ensures ∙ ap host_reading (c.refused_reading.ensures ∙ refused)
-
-pub returns : goal.returns
-returns c = c.host_reading-2.ensures ∙ ap host_reading c.read-r.ensures
+pub returns-in-Err : goal.returns-in-Err
+returns-in-Err c =
+    let e = c.in-Err.e in
+    let r : reading c.args.octets.now ≡ refused_reading (number_of e) = sym (answer-refused _ refused_reading {n = number_of e} (sym (sym (reading_refusal _) ∙ c.in-Err.ensures)) (numbered e)) in
+    rw (r, c.from-in-Err.ensures) refl

@@ -1,23 +1,19 @@
--- `gemthatch::gemthatch_record_at` meets its contract: what the walk hands out, as a number of records and the record. Assumes nothing.
-use mathlib.Core.Path.{◌≡◌, sym, ap, ◌∙◌}
-use borrow.Author.Rules.{rules}
-use Rattle.record.specs.Record.{blank}
-use Rattle.walk.specs.declared.WalkAnswer.{WalkAnswer}
-use Rattle.walk.specs.declared.Handed.{Handed}
+-- `gemthatch::gemthatch_record_at` meets its contract: what the walk tells of the place, each case by the definition. Assumes nothing.
+use mathlib.Core.Path.{sym, ◌∙◌}
+use Rattle.std.proofs.Common.{ap₂}
+use Rattle.walk.proofs.InOrder.{record_at-refused}
 use Rattle.gemthatch.specs.OverC.{place, place_at}
 use Rattle.gemthatch.proofs.gemthatch_record_at.Goals as goal
 
--- the place of what was handed out, by what the walk's answer is
-placed : {h : Handed} {a b : WalkAnswer} → h ≡ a.handed → a ≡ b → place a.refusal h ≡ place b.refusal b.handed
-placed {a = a} e e' = ap (place a.refusal) e ∙ ap (λ (x : WalkAnswer). place x.refusal x.handed) e'
-
-pub enum_told-1 : goal.enum_told-1
-enum_told-1 c = search rules
-
-pub returns-in-One : goal.returns-in-One
+pub returns-in-Ok-Some : goal.returns-in-Ok-Some
 unfolding place_at
-returns-in-One c = placed (sym c.in-One.is) c.record_at-a.ensures
+returns-in-Ok-Some c = ap₂ place (sym c.in-Ok-Some.ensures.0) (sym c.in-Ok-Some.field-0-is ∙ c.in-Ok-Some.ensures.1)
 
-pub returns-in-NoMore : goal.returns-in-NoMore
-unfolding place_at blank
-returns-in-NoMore c = placed (sym c.in-NoMore.is) c.record_at-a.ensures
+pub returns-in-Ok-None : goal.returns-in-Ok-None
+unfolding place_at
+returns-in-Ok-None c = c.no_record.ensures ∙ ap₂ place (sym c.in-Ok-None.ensures.0) (sym c.in-Ok-None.field-0-is ∙ c.in-Ok-None.ensures.1)
+
+pub returns-in-Err : goal.returns-in-Err
+unfolding place_at
+returns-in-Err c =
+    c.no_record-in-Err.ensures ∙ ap₂ place (c.from.ensures ∙ sym c.in-Err.ensures) (sym (record_at-refused _ _ c.in-Err.e c.in-Err.ensures))

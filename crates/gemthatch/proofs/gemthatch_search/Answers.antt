@@ -2,68 +2,57 @@
 use Prim.Native.Nat.{ℕ, ◌/◌}
 use native.Mathlib.Omega.{arith}
 use mathlib.Core.Path.{◌≡◌, sym, ap, ◌∙◌}
-use mathlib.Core.List.{[]}
-use lib.ListN.{length, take}
+use mathlib.Core.List.{List}
+use lib.ListN.{length, take, replicate, length-take}
+use Rattle.std.proofs.Common.{min}
 use Rattle.octets.specs.Octets.{holds_only}
-use Rattle.slotmap.specs.Map.{Mapped}
-use Rattle.search.specs.declared.Query.{Query}
-use Rattle.search.specs.declared.Found.{Found}
-use Rattle.search.specs.Search.{found, searched}
-use Rattle.search.proofs.Answers.{found-fits}
+use Rattle.octets.specs.Refusals.{answer}
 use Rattle.gemthatch.specs.OverC.{over_c, lent_map, query, search_number, in_octets, search_list}
-use Rattle.gemthatch.proofs.Most.{search_most}
+use Rattle.gemthatch.proofs.Places.{told_alike, told_found, told_none}
 use Rattle.gemthatch.proofs.gemthatch_search.Goals as goal
-use Rattle.gemthatch.proofs.gemthatch_search.Goals.{After-search_places-f}
+use Rattle.gemthatch.proofs.gemthatch_search.Goals.{After-min-places}
 
--- ---- what is known once the search has answered
+-- the places that no search has more of
+abbrev sixteen : List ℕ
+sixteen = replicate 16 0
 
-module _ (c : After-search_places-f) where
-  abbrev given : Mapped
-  given = lent_map c.args.m1 c.args.time c.args.count c.args.memory.now c.args.map.now
+-- as many places as the octets have, but no more than sixteen
+all : (c : After-min-places) → length (take c.min-places.result sixteen) ≡ min (length c.args.list.now / 4) 16
+all c = omega (arith, length-take c.min-places.result sixteen, c.min-places.ensures, c.clear_from.auto.memory)
 
-  abbrev asked : Query
-  asked = query c.args.lo c.args.hi c.args.length c.args.wanted
+pub slice_bounds-put_numbers-end : goal.slice_bounds-put_numbers-end
+slice_bounds-put_numbers-end c =
+    let a = c.args in
+    let f = told_found (lent_map a.m1 a.time a.count a.memory.now a.map.now) (query a.lo a.hi a.length a.wanted) (length a.list.now / 4) (all (goal.at.slice_bounds-put_numbers-end c).After-min-places) c.in-Ok.ensures.answer c.in-Ok.ensures.list in
+    f.0 ∙ ap length (sym f.1)
 
-  abbrev octets : ℕ
-  octets = length c.args.list.now
+pub returns-in-Ok-clause-answer : goal.returns-in-Ok-clause-answer
+unfolding search_number over_c answer
+returns-in-Ok-clause-answer c =
+    let a = c.args in
+    ap (λ w. over_c w.refusal w.number)
+    (told_alike (lent_map a.m1 a.time a.count a.memory.now a.map.now) (query a.lo a.hi a.length a.wanted) (length a.list.now / 4) (all (goal.at.returns-in-Ok-clause-answer c).After-min-places) c.in-Ok.ensures.answer)
 
-  -- the wiped list is as long as the one that came
-  as_long : length c.clear_from.new.memory ≡ octets
-  as_long = c.clear_from.auto.memory
+pub returns-in-Ok-clause-list : goal.returns-in-Ok-clause-list
+unfolding search_list
+returns-in-Ok-clause-list c =
+    let a = c.args in
+    let f = told_found (lent_map a.m1 a.time a.count a.memory.now a.map.now) (query a.lo a.hi a.length a.wanted) (length a.list.now / 4) (all (goal.at.returns-in-Ok-clause-list c).After-min-places) c.in-Ok.ensures.answer c.in-Ok.ensures.list in
+    c.put_numbers.ensures
+    ∙ ap (λ i. holds_only i (in_octets (take c.in-Ok.number c.search.new.list))) c.clear_from.auto.memory
+    ∙ ap (λ ns. holds_only (length a.list.now) (in_octets ns)) f.1
 
-  answered : c.search_places-f.result ≡ searched given asked (octets / 4)
-  answered = c.search_places-f.ensures.answer ∙ ap (λ n. searched given asked (n / 4)) as_long
+pub returns-in-Err-clause-answer : goal.returns-in-Err-clause-answer
+unfolding search_number
+returns-in-Err-clause-answer c =
+    let a = c.args in
+    c.refused.ensures
+    ∙ ap (λ w. over_c w.refusal w.number)
+    (told_alike (lent_map a.m1 a.time a.count a.memory.now a.map.now) (query a.lo a.hi a.length a.wanted) (length a.list.now / 4) (all (goal.at.returns-in-Err-clause-answer c).After-min-places) c.in-Err.ensures.answer)
 
-  starts_found : take c.search_places-f.result.number c.search_places-f.new.starts ≡ found given asked (octets / 4)
-  starts_found = c.search_places-f.ensures.starts ∙ ap (λ n. found given asked (n / 4)) as_long
-
--- ---- the goals
-
-pub put_numbers-requires : goal.put_numbers-requires
-unfolding searched
-put_numbers-requires c =
-    let x = (goal.at.put_numbers-requires c).After-search_places-f in
-    let n : c.search_places-f.result.number ≡ length (found (given x) (asked x) (octets x / 4)) = ap (λ (f : Found). f.number) (answered x) in
-    let fits = found-fits (given x) (asked x) (octets x / 4) in
-    let l = as_long x in
-    let k = c.search_places-f.auto.starts in
-    record {
-      n_in_bounds = (omega arith, omega arith);
-      list_value = c.clear_from.ensures ∙ ap (λ i. holds_only i []) (sym l);
-    }
-
-pub over_c-requires : goal.over_c-requires
-over_c-requires c =
-    let x = (goal.at.over_c-requires c).After-search_places-f in
-    rw (answered x) (search_most (given x) (asked x) (octets x / 4))
-
-pub returns : goal.returns
-unfolding search_number search_list
-returns c =
-    let x = (goal.at.returns c).After-search_places-f in
-    record {
-      answer = c.over_c.ensures ∙ ap (λ (f : Found). over_c f.refusal f.number) (answered x);
-      list =
-          c.put_numbers.ensures ∙ ap (λ i. holds_only i (in_octets (take c.search_places-f.result.number c.search_places-f.new.starts))) (as_long x)
-          ∙ ap (λ ns. holds_only (octets x) (in_octets ns)) (starts_found x);
-    }
+pub returns-in-Err-clause-list : goal.returns-in-Err-clause-list
+unfolding search_list
+returns-in-Err-clause-list c =
+    let a = c.args in
+    let none = told_none (lent_map a.m1 a.time a.count a.memory.now a.map.now) (query a.lo a.hi a.length a.wanted) (length a.list.now / 4) (all (goal.at.returns-in-Err-clause-list c).After-min-places) c.in-Err.e c.in-Err.ensures.answer in
+    c.clear_from.ensures ∙ ap (λ ns. holds_only (length a.list.now) (in_octets ns)) (sym none)

@@ -1,5 +1,5 @@
 -- `lines::claims` promises what the laws prove, and the samples and P2 by computing. Assumes nothing.
-use mathlib.Core.Path.{refl, sym}
+use mathlib.Core.Path.{refl}
 use Rattle.octets.specs.Refusals.{answer}
 use Rattle.lines.specs.Text.{digits, decimal, signed_decimal}
 use Rattle.lines.specs.Listing.{destination_text, block_line, refused_line, line, first_lines}
@@ -14,8 +14,8 @@ pub returns : goal.returns
 unfolding answer digits decimal signed_decimal destination_text block_line refused_line line first_lines ok_line said_line state_line record_line
 returns c =
     record {
-      sample = rw (line-block_line sample_octets sample_reading (sym sample_read) refl);
-      no_rebroadcast_lem = rw (line-block_line p2_octets p2_reading (sym p2_read) refl);
+      sample = rw (line-block_line sample_octets {b = sample_reading.block} (rw sample_read (refl, refl)));
+      no_rebroadcast_lem = rw (line-block_line p2_octets {b = p2_reading.block} (rw p2_read (refl, refl)));
       empty = refl;
       short = λ g h. rw (short_read g h);
       no_longer = line-longest;

@@ -1,6 +1,8 @@
 -- `lines::record_line` meets its contract: the line is put at the start of zeros. Assumes nothing.
 use Prim.Native.Nat.{◌≤◌}
+use mathlib.Core.Path.{refl}
 use native.Mathlib.Omega.{arith}
+use borrow.Author.Rules.{rules}
 use lib.ListN.{length}
 use Rattle.lines.specs.Day.{record_line, line_room}
 use Rattle.lines.proofs.Day.{record_room, line_put, start_room}
@@ -13,8 +15,11 @@ fits c =
     let g = c.well_formed in
     record_room _ (omega (arith, g), omega (arith, g), omega (arith, g), omega (arith, g), omega (arith, g), omega (arith, g), omega (arith, g))
 
-pub put_record-length-requires : goal.put_record-length-requires
-put_record-length-requires c = start_room (fits (goal.at.put_record-length-requires c).Start)
+pub put_record-requires : goal.put_record-requires
+put_record-requires c = start_room (fits (goal.at.put_record-requires c).Start) refl refl
+
+pub invariant_of-line : goal.invariant_of-line
+invariant_of-line c = (line_put (fits (goal.at.invariant_of-line c).Start) c.put_record.ensures.wrote (search rules)).0
 
 pub returns : goal.returns
-returns c = line_put (fits (goal.at.returns c).Start) c.put_record-length.ensures
+returns c = (line_put (fits (goal.at.returns c).Start) c.put_record.ensures.wrote (search rules)).1

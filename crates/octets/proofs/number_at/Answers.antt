@@ -1,16 +1,13 @@
--- `octets::number_at` meets its contract: where there are four octets, the number that they say. Assumes nothing.
-use native.Mathlib.Omega.{arith}
-use mathlib.Core.Path.{sym, ◌∙◌}
-use Rattle.octets.proofs.Octets.{number_at_four, number_at_out}
+-- `octets::number_at` meets its contract: where there are four octets, std's number of them is the definition's. Assumes nothing.
+use Rattle.std.proofs.Common.{arith, sym, ◌∙◌}
+use Rattle.octets.specs.Octets.{number}
+use Rattle.octets.proofs.Octets.{number_at_four}
+use borrow.Author.Tests.{leb-true}
 use Rattle.octets.proofs.number_at.Goals as goal
 
-pub returns-then-memory-lt4 : goal.returns-then-memory-lt4
-returns-then-memory-lt4 c = sym (number_at_out 4 c.args.memory.now c.args.at (omega arith))
-
-pub returns-then-memory-at : goal.returns-then-memory-at
-returns-then-memory-at c = sym (number_at_out 4 c.args.memory.now c.args.at (omega arith))
-
-pub returns : goal.returns
-returns c =
+pub returns-then-stand : goal.returns-then-stand
+unfolding number
+returns-then-stand c =
     let a = c.args in
-    c.join.ensures ∙ sym (number_at_four a.memory.now a.at (omega arith))
+    let e = number_at_four a.memory.now a.at (leb-true _ _ (sym c.stand.ensures ∙ c.if-stand.true)) in
+    rw e (omega arith)

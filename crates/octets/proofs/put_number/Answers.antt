@@ -1,29 +1,18 @@
 -- `octets::put_number` meets its contract: where there are four octets they are written over. Assumes nothing.
-use native.Mathlib.Omega.{arith}
-use native.Mathlib.Numerals.{towards_numerals}
-use mathlib.Core.Path.{sym, ◌∙◌}
-use lib.ListN.{length-set}
-use Rattle.octets.specs.Octets.{little}
-use Rattle.octets.proofs.Octets.{put_at_in, put_at_out}
+use Rattle.std.proofs.Common.{arith, sym, ◌≤◌, ◌+◌, length, append_assoc, ◌∙◌}
+use borrow.Author.Tests.{leb-true}
+use borrow.Rule.Slice.PartMut.{Post-is}
+use lib.Seq.{sets-eq}
+use Rattle.octets.specs.Octets.{put_at, little}
+use Rattle.octets.proofs.Octets.{little_four, length-little}
 use Rattle.octets.proofs.put_number.Goals as goal
 
-pub returns-then-memory-lt4 : goal.returns-then-memory-lt4
-returns-then-memory-lt4 c = sym (put_at_out 4 c.args.memory.now c.args.at c.args.x (omega arith))
-
-pub returns-then-memory-at : goal.returns-then-memory-at
-returns-then-memory-at c = sym (put_at_out 4 c.args.memory.now c.args.at c.args.x (omega arith))
-
-pub bounds-memory-at-2 : goal.bounds-memory-at-2
-bounds-memory-at-2 c = simp length-set (omega arith)
-
-pub bounds-memory-at-3 : goal.bounds-memory-at-3
-bounds-memory-at-3 c = simp length-set (omega arith)
-
-pub bounds-memory-at-4 : goal.bounds-memory-at-4
-bounds-memory-at-4 c = simp length-set (omega arith)
-
-pub returns : goal.returns
-unfolding little
-returns c =
+pub returns-then-stand : goal.returns-then-stand
+unfolding put_at
+returns-then-stand c =
     let a = c.args in
-    rw c.split-o.ensures (sym (put_at_in 4 a.memory.now a.at a.x (omega arith) ∙ simp towards_numerals))
+    let t = sym c.stand.ensures ∙ c.if-stand.true in
+    let h : a.at + 4 ≤ length a.memory.now = leb-true _ _ t in
+    let written = c.copy_from_slice.ensures.after ∙ c.to_le_bytes.ensures ∙ little_four a.x in
+    let l = length-little 4 a.x in
+    rw (t, written, Post-is a.at (a.at + 4) a.memory.now (omega arith), sets-eq (little 4 a.x) a.memory.now a.at (omega arith), l, append_assoc)

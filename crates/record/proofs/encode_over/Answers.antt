@@ -1,7 +1,5 @@
 -- `record::encode_over` meets its contract: each number is written at its place. Assumes nothing.
-use mathlib.Core.Path.{sym, ap, ◌∙◌}
-use lib.ListN.{length}
-use Rattle.record.proofs.Fields.{length-encode}
+use mathlib.Core.Path.{◌∙◌}
 use Rattle.record.proofs.Places.{encode_at}
 use Rattle.record.proofs.encode_over.Goals as goal
 
@@ -20,7 +18,3 @@ returns c =
       c.put_number.ensures,
     )
     (encode_at c.args.s.now c.args.r c.requires)
-
-pub shape_of-s : goal.shape_of-s
-shape_of-s c =
-    ap length (returns c) ∙ length-encode _ ∙ sym c.requires

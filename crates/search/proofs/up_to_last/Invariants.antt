@@ -1,10 +1,7 @@
-use Prim.Native.Nat.{◌-◌, ◌+◌, ◌≤◌}
+use Prim.Native.Nat.{◌-◌, ◌+◌}
 use mathlib.Core.Path.{◌≡◌}
 use Rattle.search.specs.Steps.{octet_below, streak}
 use Rattle.search.proofs.up_to_last.Given as goal
 
 abbrev pub invariant-loop-k : goal.invariant-loop-k
-invariant-loop-k l = (l.k ≤ l.n) × (streak (octet_below l.states l.x) l.at l.n ≡ streak (octet_below l.states l.x) l.at l.k + (l.n - l.k))
-
-abbrev pub decreases-loop-k : goal.decreases-loop-k
-decreases-loop-k l = l.k
+invariant-loop-k l = streak (octet_below l.states l.x) l.at l.n ≡ streak (octet_below l.states l.x) l.at l.k + (l.n - l.k)

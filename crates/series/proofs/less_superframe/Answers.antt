@@ -6,4 +6,4 @@ use Rattle.series.proofs.less_superframe.Goals as goal
 pub returns : goal.returns
 returns c =
     let a = c.args in
-    rw (c.lesser.ensures, c.ahead_of.ensures) (less_step_lesser a.m1 a.x (omega arith))
+    rw (c.min.ensures, c.ahead_of.ensures) (less_step_lesser a.m1 a.x (omega arith))

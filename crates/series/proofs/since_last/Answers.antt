@@ -1,24 +1,16 @@
--- `series::since_last` meets its contract: the last start is not past x, so the product is at most x. Assumes nothing.
-use Rattle.std.proofs.Common.{◌≡◌, ◌*◌, ◌≤◌, arith}
+-- `series::since_last` meets its contract: the least of the two is the place of the last start. Assumes nothing.
+use Rattle.std.proofs.Common.{◌≡◌, ℕ, ◌/◌, ◌<◌, ⊎_elim, eq-zero-or-pos, arith}
+use Rattle.std.specs.Prelude.{Option, Some, None, SomeIff}
+use Rattle.std.specs.Option.{unwrap_or}
+use native.Mathlib.Nat.{div-zero}
 use Rattle.series.specs.Candidate.{last_started}
-use Rattle.series.proofs.LastStarted.{last_started-started}
 use Rattle.series.proofs.since_last.Goals as goal
-use Rattle.series.proofs.since_last.Goals.{After-lesser-last}
 
--- the place of the last start
-last : (c : After-lesser-last) → let a = c.args in c.lesser-last.result ≡ last_started a.most a.step a.x
-unfolding last_started
-last c = rw (← c.quotient.ensures.0) c.lesser-last.ensures
-
--- it is not past x
-started : (c : After-lesser-last) → let a = c.args in c.lesser-last.result * a.step ≤ a.x
-started c = let a = c.args in rw (last c) (last_started-started a.most a.step a.x)
-
-pub overflow_mul-result : goal.overflow_mul-result
-overflow_mul-result c = omega (arith, started c)
-
-pub overflow_sub-result : goal.overflow_sub-result
-overflow_sub-result c = started c
+-- a checked division, 0 taken where it gives nothing, is the division of the definitions, which gives 0 for 0 too
+checked_quotient : (x d : ℕ) (q : Option ℕ) → SomeIff q (0 < d) (x / d) → unwrap_or q 0 ≡ x / d
+checked_quotient x d (Some y) h = h.1
+checked_quotient x d None h = ⊎_elim (λ (z : d ≡ 0). rw (z, div-zero)) (λ (pos : 0 < d). absurd (h pos)) (eq-zero-or-pos d)
 
 pub returns : goal.returns
-returns c = rw (last c)
+unfolding last_started
+returns c = grind (arith, checked_quotient)

@@ -1,75 +1,78 @@
 -- `slotmap::clock_in` meets its contract: on a fresh map, it is moved on in the window, or the states are worked out anew. Assumes nothing.
-use Prim.Native.Nat.{◌+◌, ◌<◌, ◌≤◌}
+use Prim.Native.Nat.{ℕ, ◌+◌}
 use native.Mathlib.Omega.{arith}
-use mathlib.Core.Path.{◌≡◌, refl, sym, ap, ◌∙◌}
-use mathlib.Core.Bool.{true, false}
+use mathlib.Core.Path.{◌≡◌, sym, ap, ◌∙◌}
+use mathlib.Core.Bool.{true}
 use lib.ListN.{length, take}
-use borrow.Author.Tests.{eqb-true, eqb-false}
+use Rattle.std.specs.Prelude.{Option, unwrap_or}
+use Rattle.std.proofs.lemmas.Result.{err_from_is_err_and}
 use Rattle.octets.proofs.SameOctets.{same_octets-true}
 use Rattle.sound.specs.Sound.{records}
 use Rattle.table.specs.Table.{clock}
-use Rattle.slotmap.specs.Map.{Mapped, with_map, is_fresh}
-use Rattle.slotmap.specs.Steps.{moves_on}
+use Rattle.table.specs.Memory.{channel}
+use Rattle.slotmap.specs.Map.{with_map, is_fresh}
 use Rattle.slotmap.proofs.Fresh.{sound_m1, is_fresh_sized}
-use Rattle.slotmap.proofs.Given.{gives_refusal, stale_gives, fresh_gives}
-use Rattle.slotmap.proofs.Window.{take_window, moved_by_on, moved_by_off}
+use Rattle.slotmap.proofs.Given.{gives_accepted, stale_gives, fresh_gives, fresh_gives-refused}
+use Rattle.slotmap.proofs.Window.{take_window, moved_by-some}
 use Rattle.slotmap.proofs.Kept.{accepted_sound, clock_left, clock_anew}
 use Rattle.slotmap.proofs.clock_in.Goals as goal
-use Rattle.slotmap.proofs.clock_in.Goals.{After-is_same, Start}
+use Rattle.slotmap.proofs.clock_in.Goals.{After-moved_by-moved, Else-not-is_same}
 
-abbrev given : (c : Start) → Mapped
-given s = let a = s.args in with_map a.s a.memory.now a.map.now
+-- the map is fresh
+fresh : (t : Else-not-is_same) → is_fresh (let a = t.args in with_map a.s.now a.memory.now a.map.now) ≡ true
+fresh t =
+    let a = t.args in
+    sym (is_fresh_sized (with_map a.s.now a.memory.now a.map.now) t.requires.sized) ∙ sym t.is_same.ensures.same ∙ t.if-not-is_same.false
 
--- the answer tells whether the map is fresh
-tested : (c : After-is_same) → c.is_same.result ≡ is_fresh ((let a = c.args in with_map a.s a.memory.now a.map.now))
-tested c = c.is_same.ensures.same ∙ is_fresh_sized ((let a = c.args in with_map a.s a.memory.now a.map.now)) c.requires.0
-
-pub move_on-requires : goal.move_on-requires
-move_on-requires c =
+pub returns-then-not-is_same : goal.returns-then-not-is_same
+returns-then-not-is_same c =
     let a = c.args in
-    let m = (given (goal.at.move_on-requires c).Start).channel in
+    let x = with_map a.s.now a.memory.now a.map.now in
+    stale_gives x (clock a.slot) c.stale.ensures (λ _. sym (is_fresh_sized x c.requires.sized) ∙ sym c.is_same.ensures.same ∙ c.if-not-is_same.true)
+
+pub returns-in_err-dropped : goal.returns-in_err-dropped
+returns-in_err-dropped c =
+    let a = c.args in
+    let p = err_from_is_err_and c.from_residual.result c.from_residual.ensures.1 in
+    rw (p.1, p.2)
+    (fresh_gives-refused (with_map a.s.now a.memory.now a.map.now) (clock a.slot) (fresh (goal.at.returns-in_err-dropped c).Else-not-is_same) _ c.in_err-dropped.ensures)
+
+pub move_on-requires-clause-some : goal.move_on-requires-clause-some
+move_on-requires-clause-some c =
+    let a = c.args in
+    omega (arith, c.requires.sized, (sound_m1 (with_map a.s.now a.memory.now a.map.now).channel (accepted_sound _ (clock a.slot) (gives_accepted c.in_ok-dropped.ensures))).0)
+
+pub move_on-requires-clause-begins : goal.move_on-requires-clause-begins
+move_on-requires-clause-begins c =
+    let a = c.args in
     let p = a.map.now in
-    let w = a.window.now in
-    let same = c.is_same in
-    let sized = sound_m1 m (accepted_sound m (clock a.slot) (sym (gives_refusal c.clock-a.ensures) ∙ eqb-true _ 0 (sym c.accepted.ensures ∙ c.if-accepted.true))) in
-    let some : 0 < length p = omega (arith, c.requires.0, sized.0) in
-    let room : length p + 32 ≤ length w = omega (arith, c.requires.0, c.requires.2) in
-    let first = ap (take (length p)) same.ensures.window ∙ take_window m.m1 (records m) m.now (length w) (length p) room in (
-      some,
-      omega (arith, c.requires.0, c.requires.2, c.moved_by.ensures, same.auto.window),
-      first ∙ sym (same_octets-true p _ (sym same.ensures.same ∙ c.if-is_same.true)),
-    )
+    let same = c.is_same.ensures in
+    ap (take (length p)) same.window
+    ∙ take_window a.s.now.m1 (records (channel a.s.now a.memory.now)) a.s.now.now (length a.window.now) (length p) (omega (arith, c.requires.sized, c.requires.room))
+    ∙ sym (same_octets-true p _ (sym same.same ∙ c.if-not-is_same.false))
 
-pub returns-then-moves_on : goal.returns-then-moves_on
-returns-then-moves_on c =
+-- the room of the window, by how many slots the clock moves the map on
+room : (c : After-moved_by-moved) {o : Option ℕ} → c.moved_by-moved.result ≡ o → length c.args.window.now ≡ c.args.s.now.m1 + unwrap_or o 0 + 32
+room c e = c.requires.room ∙ ap (λ (o : Option ℕ). c.args.s.now.m1 + unwrap_or o 0 + 32) (sym c.moved_by-moved.ensures ∙ e)
+
+pub returns-in-Some : goal.returns-in-Some
+returns-in-Some c =
     let a = c.args in
-    let g = c.clock-a.ensures in
-    let z = eqb-true _ 0 (sym c.accepted.ensures ∙ c.if-accepted.true) in
-    let on : moves_on a.s a.slot ≡ true = sym c.moves_on.ensures ∙ c.if-moves_on.true in
-    let by = c.moved_by in
-    fresh_gives (given (goal.at.returns-then-moves_on c).Start) (clock a.slot) (sym (tested (goal.at.returns-then-moves_on c).After-is_same) ∙ c.if-is_same.true) g
-    (λ _.
-    c.move_on.ensures
-    ∙ clock_left (given (goal.at.returns-then-moves_on c).Start).channel a.map.now c.requires.0 a.slot by.result (length a.window.now) g z (omega (arith, c.requires.2, by.ensures)) (omega (arith, by.ensures, moved_by_on a.s a.slot on)) _ c.is_same.ensures.window)
-    (λ k. absurd (k z))
+    let x = with_map a.s.now a.memory.now a.map.now in
+    let g = c.in_ok-dropped.ensures in
+    let by = c.in-Some.by in
+    fresh_gives x (clock a.slot) (fresh (goal.at.returns-in-Some c).Else-not-is_same) g
+    (c.move_on.ensures
+    ∙ clock_left x.channel a.map.now c.requires.sized a.slot by (length a.window.now) g
+    (room (goal.at.returns-in-Some c).After-moved_by-moved c.in-Some.is) (moved_by-some a.s.now a.slot by (sym c.moved_by-moved.ensures ∙ c.in-Some.is)) _ c.is_same.ensures.window)
 
-pub returns-else-moves_on : goal.returns-else-moves_on
-returns-else-moves_on c =
+pub returns-in-None : goal.returns-in-None
+returns-in-None c =
     let a = c.args in
+    let x = with_map a.s.now a.memory.now a.map.now in
     let same = c.is_same in
-    let g = c.clock-a.ensures in
-    let z = eqb-true _ 0 (sym c.accepted.ensures ∙ c.if-accepted.true) in
-    let off : moves_on a.s a.slot ≡ false = sym c.moves_on.ensures ∙ c.if-moves_on.false in
-    fresh_gives (given (goal.at.returns-else-moves_on c).Start) (clock a.slot) (sym (tested (goal.at.returns-else-moves_on c).After-is_same) ∙ c.if-is_same.true) g
-    (λ _.
-    c.copy.ensures
-    ∙ clock_anew (given (goal.at.returns-else-moves_on c).Start).channel a.map.now c.requires.0 a.slot (length same.new.window) g z (omega (arith, same.auto.window, c.requires.2, moved_by_off a.s a.slot off)) _ c.states.ensures)
-    (λ k. absurd (k z))
-
-pub returns-else-accepted : goal.returns-else-accepted
-returns-else-accepted c =
-    fresh_gives (given (goal.at.returns-else-accepted c).Start) (clock c.args.slot) (sym (tested (goal.at.returns-else-accepted c).After-is_same) ∙ c.if-is_same.true) c.clock-a.ensures (λ z. absurd (eqb-false _ 0 (sym c.accepted.ensures ∙ c.if-accepted.false) z)) (λ _. refl)
-
-pub returns : goal.returns
-returns c =
-    stale_gives (given (goal.at.returns c).Start) (clock c.args.slot) c.stale.ensures (λ _. sym (tested (goal.at.returns c).After-is_same) ∙ c.if-is_same.false)
+    let g = c.in_ok-dropped.ensures in
+    fresh_gives x (clock a.slot) (fresh (goal.at.returns-in-None c).Else-not-is_same) g
+    (c.copy.ensures
+    ∙ clock_anew x.channel a.map.now c.requires.sized a.slot (length same.new.window) g
+    (omega (arith, same.auto.window, room (goal.at.returns-in-None c).After-moved_by-moved c.in-None.is)) _ c.states.ensures)

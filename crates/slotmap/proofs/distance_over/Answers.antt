@@ -1,35 +1,23 @@
 -- `slotmap::distance_over` meets its contract: accepted, the others' states raised by the station's records are copied over the map. Assumes nothing.
-use Prim.Native.Nat.{◌+◌}
-use mathlib.Core.Path.{refl, sym, ◌∙◌}
-use lib.ListN.{length}
-use lib.Seq.{length-take-le}
-use borrow.Author.Tests.{eqb-true, eqb-false}
+use mathlib.Core.Path.{◌∙◌}
+use Rattle.std.proofs.lemmas.Result.{err_from_is_err_and}
 use Rattle.table.specs.Table.{distance}
-use Rattle.slotmap.specs.Map.{Mapped, with_map}
-use Rattle.slotmap.proofs.Given.{fresh_gives}
+use Rattle.slotmap.specs.Map.{with_map}
+use Rattle.slotmap.proofs.Fresh.{is_fresh-size}
+use Rattle.slotmap.proofs.Given.{fresh_gives, fresh_gives-refused}
 use Rattle.slotmap.proofs.Kept.{distance_left}
 use Rattle.slotmap.proofs.distance_over.Goals as goal
-use Rattle.slotmap.proofs.distance_over.Goals.{Start}
 
-abbrev given : (c : Start) → Mapped
-given s = let a = s.args in with_map a.s a.memory.now a.map.now
-
-pub slice_bounds-raise-end : goal.slice_bounds-raise-end
-slice_bounds-raise-end c = c.requires.3
-
-pub slice_bounds-raise-end-then-accepted : goal.slice_bounds-raise-end-then-accepted
-slice_bounds-raise-end-then-accepted c = sym (length-take-le (length c.args.map.now + 32) c.args.window.now c.requires.3)
-
-pub returns-then-accepted : goal.returns-then-accepted
-returns-then-accepted c =
+pub returns-in_err-held : goal.returns-in_err-held
+returns-in_err-held c =
     let a = c.args in
-    let g = c.distance-a.ensures in
-    let z = eqb-true _ 0 (sym c.accepted.ensures ∙ c.if-accepted.true) in
-    fresh_gives (given (goal.at.returns-then-accepted c).Start) (distance a.station a.d a.limit) c.requires.1 g
-    (λ _. c.copy.ensures ∙ distance_left (given (goal.at.returns-then-accepted c).Start).channel a.map.now c.requires.0 a.station a.d a.limit g z _ _ c.requires.3 c.requires.2 c.raise.ensures)
-    (λ n. absurd (n z))
+    let p = err_from_is_err_and c.from_residual.result c.from_residual.ensures.1 in
+    rw (p.1, p.2) (fresh_gives-refused (with_map a.s.now a.memory.now a.map.now) (distance a.station a.d a.limit) c.requires.fresh _ c.in_err-held.ensures)
 
-pub returns-else-accepted : goal.returns-else-accepted
-returns-else-accepted c =
+pub returns : goal.returns
+returns c =
     let a = c.args in
-    fresh_gives (given (goal.at.returns-else-accepted c).Start) (distance a.station a.d a.limit) c.requires.1 c.distance-a.ensures (λ z. absurd (eqb-false _ 0 (sym c.accepted.ensures ∙ c.if-accepted.false) z)) (λ _. refl)
+    let x = with_map a.s.now a.memory.now a.map.now in
+    let g = c.in_ok-held.ensures in
+    fresh_gives x (distance a.station a.d a.limit) c.requires.fresh g
+    (c.copy.ensures ∙ distance_left x.channel a.map.now (is_fresh-size x c.requires.fresh) a.station a.d a.limit g _ _ c.requires.others c.raise.ensures)

@@ -9,5 +9,5 @@ use Rattle.slotmap.proofs.mark_over.Goals as goal
 pub returns : goal.returns
 returns c =
     let a = c.args in
-    over_raised a.s.m1 (part_of (From a.k) (records (channel a.s a.memory.now))) a.s.now a.map.now c.requires.0 _ _ _ _
+    over_raised a.s.m1 (part_of (From a.k) (records (channel a.s a.memory.now))) a.s.now a.map.now c.requires.room _ _ _ _
     c.copy.ensures c.raise.ensures c.raise-2.ensures c.copy-2.ensures

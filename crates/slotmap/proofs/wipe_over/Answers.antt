@@ -1,25 +1,23 @@
 -- `slotmap::wipe_over` meets its contract: accepted, the others' states are copied over the map. Assumes nothing.
-use mathlib.Core.Path.{refl, sym, ◌∙◌}
-use borrow.Author.Tests.{eqb-true, eqb-false}
+use mathlib.Core.Path.{◌∙◌}
+use Rattle.std.proofs.lemmas.Result.{err_from_is_err_and}
 use Rattle.table.specs.Table.{wipe}
-use Rattle.slotmap.specs.Map.{Mapped, with_map}
-use Rattle.slotmap.proofs.Given.{fresh_gives}
+use Rattle.slotmap.specs.Map.{with_map}
+use Rattle.slotmap.proofs.Fresh.{is_fresh-size}
+use Rattle.slotmap.proofs.Given.{fresh_gives, fresh_gives-refused}
 use Rattle.slotmap.proofs.Kept.{wipe_left}
 use Rattle.slotmap.proofs.wipe_over.Goals as goal
-use Rattle.slotmap.proofs.wipe_over.Goals.{Start}
 
-abbrev given : (c : Start) → Mapped
-given s = let a = s.args in with_map a.s a.memory.now a.map.now
-
-pub returns-then-accepted : goal.returns-then-accepted
-returns-then-accepted c =
+pub returns-in_err-removed : goal.returns-in_err-removed
+returns-in_err-removed c =
     let a = c.args in
-    let g = c.wipe-a.ensures in
-    let z = eqb-true _ 0 (sym c.accepted.ensures ∙ c.if-accepted.true) in
-    fresh_gives (given (goal.at.returns-then-accepted c).Start) (wipe a.station) c.requires.1 g
-    (λ _. c.copy.ensures ∙ wipe_left (given (goal.at.returns-then-accepted c).Start).channel a.map.now c.requires.0 a.station g z _ c.requires.2)
-    (λ n. absurd (n z))
+    let p = err_from_is_err_and c.from_residual.result c.from_residual.ensures.1 in
+    rw (p.1, p.2) (fresh_gives-refused (with_map a.s.now a.memory.now a.map.now) (wipe a.station) c.requires.fresh _ c.in_err-removed.ensures)
 
-pub returns-else-accepted : goal.returns-else-accepted
-returns-else-accepted c =
-    fresh_gives (given (goal.at.returns-else-accepted c).Start) (wipe c.args.station) c.requires.1 c.wipe-a.ensures (λ z. absurd (eqb-false _ 0 (sym c.accepted.ensures ∙ c.if-accepted.false) z)) (λ _. refl)
+pub returns : goal.returns
+returns c =
+    let a = c.args in
+    let x = with_map a.s.now a.memory.now a.map.now in
+    let g = c.in_ok-removed.ensures in
+    fresh_gives x (wipe a.station) c.requires.fresh g
+    (c.copy.ensures ∙ wipe_left x.channel a.map.now (is_fresh-size x c.requires.fresh) a.station g _ c.requires.others)

@@ -10,18 +10,19 @@ use Rattle.slots.proofs.begun_by.Goals as goal
 pub returns : goal.returns
 returns c =
     let a = c.args in
-    let begun = c.lesser.ensures in (
+    let second = c.from.ensures in
+    let third = c.from-2.ensures in (
       omega arith,
       λ k h l.
-          by_test (leb a.end (a.from + a.m1))
+          by_test (leb a.end (a.from + c.from.result))
           (λ t.
-          let p : 1 * a.m1 ≤ k * a.m1 = mul-le-mul_right a.m1 (omega (arith, rw t at c.either-begun.ensures.0)) in
-          omega (arith, leb-true a.end (a.from + a.m1) t))
+          let p : 1 * a.m1 ≤ k * a.m1 = mul-le-mul_right a.m1 (omega (arith, rw t at c.select_unpredictable-begun.ensures)) in
+          omega (arith, leb-true a.end (a.from + c.from.result) t))
           (λ t.
-          let e = rw t at c.either-begun.ensures.0 in
-          by_test (leb a.end (a.from + a.m1 + a.m1))
+          let e = rw t at c.select_unpredictable-begun.ensures in
+          by_test (leb a.end (a.from + c.from.result + c.from-2.result))
           (λ u.
-          let p : 2 * a.m1 ≤ k * a.m1 = mul-le-mul_right a.m1 (omega (arith, rw u at c.either.ensures.0)) in
-          omega (arith, leb-true a.end (a.from + a.m1 + a.m1) u))
-          (λ u. absurd (omega (arith, rw u at c.either.ensures.0)))),
+          let p : 2 * a.m1 ≤ k * a.m1 = mul-le-mul_right a.m1 (omega (arith, rw u at c.select_unpredictable.ensures)) in
+          omega (arith, leb-true a.end (a.from + c.from.result + c.from-2.result) u))
+          (λ u. absurd (omega (arith, rw u at c.select_unpredictable.ensures)))),
     )

@@ -1,4 +1,3 @@
-use Prim.Native.Nat.{◌-◌}
 use mathlib.Core.Path.{◌≡◌}
 use Rattle.sound.specs.Sound.{records}
 use Rattle.table.specs.Memory.{channel}
@@ -9,6 +8,3 @@ use Rattle.slots.proofs.judge.Given as goal
 
 abbrev pub invariant-loop-i : goal.invariant-loop-i
 invariant-loop-i l = slot_state l.s.m1 (records (channel l.s l.memory)) l.slot ≡ judged l.any (holders l.s.m1 (to_come l.i l.held l.memory) l.slot)
-
-abbrev pub decreases-loop-i : goal.decreases-loop-i
-decreases-loop-i l = l.held - l.i

@@ -7,12 +7,9 @@ use Rattle.slots.proofs.Marks.{marked_agree}
 use Rattle.slots.proofs.Blocks.{holds_all}
 use Rattle.slots.proofs.mark_any.Goals as goal
 
-pub returns-then-s : goal.returns-then-s
-returns-then-s c =
+pub returns-then-s-from : goal.returns-then-s-from
+returns-then-s-from c =
     let a = c.args in
     marked_agree (λ i. holds a.s (a.lo + i)) c.mark_block.ensures (λ i _.
-    ap (λ (n : ℕ). in_block a.s.start n (a.lo + i)) c.run_of.ensures.0
-    ∙ holds_all a.s (a.lo + i) c.requires.2 c.if-s.true)
-
-pub returns : goal.returns
-returns c = c.mark_each.ensures
+    ap (λ (n : ℕ). in_block a.s.start n (a.lo + i)) c.run.ensures.0
+    ∙ holds_all a.s (a.lo + i) (rw c.from.ensures at c.if-s-from.true))

@@ -3,14 +3,13 @@ use Prim.Native.Nat.{ℕ, ◌-◌}
 use mathlib.Core.Path.{◌≡◌, refl, ap, ◌∙◌}
 use native.Mathlib.Omega.{arith}
 use mathlib.Core.List.{List}
-use lib.ListN.{length, drop}
+use lib.ListN.{length}
 use Rattle.octets.specs.Octets.{zero_from}
 use Rattle.record.specs.declared.Rec.{Rec}
 use Rattle.sound.specs.Sound.{records}
 use Rattle.table.specs.Memory.{channel}
 use Rattle.slots.specs.Window.{raised, part_of}
-use Rattle.slots.specs.Steps.{chosen}
-use Rattle.slots.proofs.Chosen.{other-records, chosen_part}
+use Rattle.slots.proofs.Chosen.{taken_part}
 use Rattle.slots.proofs.Window.{raised_room}
 use Rattle.slots.proofs.raise.Goals as goal
 
@@ -26,9 +25,6 @@ returns-then-out-lt32 c =
 pub returns : goal.returns
 returns c =
     let a = c.args in
-    let given = channel a.s a.memory.now in
-    let part : chosen c.asks_about.result c.without_own.result (drop c.begins_at.result (records given)) ≡ part_of a.part (records given) =
-    rw (c.begins_at.ensures, c.asks_about.ensures, c.without_own.ensures) (chosen_part a.part (records given) (other-records given (λ i. (c.type_inv.memory i).fits))) in
     c.clear_from-2.ensures
     ∙ raised_room a.s.m1 _ a.first _ a.out.now _ c.mark_records.auto.out (λ j l _. c.mark_records.ensures.at j l)
-    ∙ ap (λ (rs : List Rec). zero_from (length a.out.now - 32) (raised a.s.m1 rs a.first a.out.now)) part
+    ∙ ap (λ (rs : List Rec). zero_from (length a.out.now - 32) (raised a.s.m1 rs a.first a.out.now)) (taken_part a.part (records (channel a.s a.memory.now)))

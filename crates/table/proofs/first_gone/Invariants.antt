@@ -1,14 +1,9 @@
-use Prim.Native.Nat.{◌≤◌, ◌-◌}
 use mathlib.Core.Path.{◌≡◌}
 use mathlib.Core.Bool.{true}
 use lib.ListN.{take}
 use Rattle.octets.specs.Lists.{every}
 use Rattle.record.specs.Record.{all_records}
-use Rattle.table.specs.Steps.{stays}
 use Rattle.table.proofs.first_gone.Given as goal
 
 abbrev pub invariant-loop-i : goal.invariant-loop-i
-invariant-loop-i l = (l.i ≤ l.n) × (every (stays l.rule) (take l.i (all_records l.memory)) ≡ true)
-
-abbrev pub decreases-loop-i : goal.decreases-loop-i
-decreases-loop-i l = l.n - l.i
+invariant-loop-i g l = every (g.R.Rule.stays l.rule) (take l.i (all_records l.memory)) ≡ true

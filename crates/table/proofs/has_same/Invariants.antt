@@ -1,4 +1,3 @@
-use Prim.Native.Nat.{◌-◌}
 use mathlib.Core.Path.{◌≡◌}
 use lib.ListN.{take}
 use Rattle.octets.specs.Lists.{has}
@@ -8,7 +7,4 @@ use Rattle.record.proofs.ToCome.{to_come}
 use Rattle.table.proofs.has_same.Given as goal
 
 abbrev pub invariant-loop-i : goal.invariant-loop-i
-invariant-loop-i l = has (same l.x) (take l.n (all_records l.memory)) ≡ has (same l.x) (to_come l.i l.held l.memory)
-
-abbrev pub decreases-loop-i : goal.decreases-loop-i
-decreases-loop-i l = l.held - l.i
+invariant-loop-i l = has (same l.x) (take l.n (all_records l.memory)) ≡ has (same l.x) (to_come l.i l.i-end l.memory)

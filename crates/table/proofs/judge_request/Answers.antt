@@ -1,6 +1,6 @@
 -- `table::judge_request` meets its contract: each `return` rewrites by the tests that led there. Assumes nothing.
 use Prim.Native.Nat.{◌+◌, ◌*◌}
-use mathlib.Core.Path.{◌≡◌, sym, ap, ◌∙◌}
+use mathlib.Core.Path.{◌≡◌, refl, sym, ap, ◌∙◌}
 use mathlib.Core.Bool.{Bool, not}
 use mathlib.Core.List.{[], ◌∷◌}
 use lib.Dec.{ltb}
@@ -74,7 +74,7 @@ returns-then-bs c =
 pub returns-then-bo : goal.returns-then-bo
 returns-then-bo c =
     let five = (goal.at.returns-then-bo c).Else-bs in
-    sym (passed_five five ∙ rw (simp (to_z-of_z (bo_fits five)) at c.if-bo.true))
+    passed_five five ∙ rw (simp (to_z-of_z (bo_fits five)) at c.if-bo.true)
 
 pub begins_early-requires : goal.begins_early-requires
 begins_early-requires c =
@@ -88,18 +88,20 @@ returns-then-begins_early c =
     let at = goal.at.returns-then-begins_early c in
     let fits = bo_fits at.Else-bs in
     let after = at.After-begins_early in
-    sym (passed_six after fits (passed_five at.Else-bs) ∙ rw (is_early after fits ∙ c.if-begins_early.true))
+    passed_six after fits (passed_five at.Else-bs) ∙ rw (is_early after fits ∙ c.if-begins_early.true)
 
-pub returns-then-limit_fits : goal.returns-then-limit_fits
-returns-then-limit_fits c =
-    let at = goal.at.returns-then-limit_fits c in
+pub returns-then-not-limit_fits : goal.returns-then-not-limit_fits
+returns-then-not-limit_fits c =
+    let at = goal.at.returns-then-not-limit_fits c in
     let fits = bo_fits at.Else-bs in
     let after = at.After-begins_early in
-    sym (passed_six after fits (passed_five at.Else-bs) ∙ rw (is_early after fits ∙ c.if-begins_early.false, sym c.limit_fits.ensures ∙ c.if-limit_fits.true))
+    passed_six after fits (passed_five at.Else-bs) ∙ rw (is_early after fits ∙ c.if-begins_early.false, sym c.limit_fits.ensures ∙ c.if-not-limit_fits.true)
 
 pub returns : goal.returns
 returns c =
     let at = goal.at.returns c in
     let fits = bo_fits at.Else-bs in
-    let after = at.After-begins_early in
-    sym (passed_six after fits (passed_five at.Else-bs) ∙ rw (is_early after fits ∙ c.if-begins_early.false, sym c.limit_fits.ensures ∙ c.if-limit_fits.false))
+    let after = at.After-begins_early in (
+      passed_six after fits (passed_five at.Else-bs) ∙ rw (is_early after fits ∙ c.if-begins_early.false, sym c.limit_fits.ensures ∙ c.if-not-limit_fits.false),
+      refl,
+    )

@@ -1,6 +1,6 @@
 -- `table::mark_all` meets its contract: as far as the loop has come the records are changed and counted. Assumes nothing.
 use Prim.Native.Nat.{◌<◌}
-use mathlib.Core.Path.{◌≡◌, refl, ◌∙◌}
+use mathlib.Core.Path.{refl, ◌∙◌}
 use native.Mathlib.Omega.{arith}
 use lib.ListN.{length}
 use Rattle.record.specs.Record.{all_records}
@@ -12,15 +12,12 @@ use Rattle.table.proofs.mark_all.Goals as goal
 
 pub loop-i-init : goal.loop-i-init
 unfolding mapped
-loop-i-init c = (omega arith, refl, refl, refl)
+loop-i-init c = (refl, refl, refl)
 
 pub mark-k-requires : goal.mark-k-requires
 mark-k-requires c =
     let m = c.args.memory.now in
-    omega (arith, c.held_count-held.ensures.1, same-capacity c.loop-i.memory m c.loop-i.invariant.1, kept_le (owned_by c.args.station) (all_records m) c.loop-i.i)
-
-pub loop-i-smaller : goal.loop-i-smaller
-loop-i-smaller c = omega (arith, c.loop-i-test.true)
+    omega (arith, c.held_count-i-end.ensures.1, c.loop-i-test.true, c.loop-i.invariant.1, same-capacity c.loop-i.memory m c.loop-i.invariant.0, kept_le (owned_by c.args.station) (all_records m) c.loop-i.i)
 
 pub loop-i-preserved : goal.loop-i-preserved
 loop-i-preserved c =
@@ -29,20 +26,9 @@ loop-i-preserved c =
     let f = set_far c.args.station c.args.far in
     let w = all_records c.loop-i.memory in
     let i = c.loop-i.i in
-    let t = c.loop-i-test.true in
-    let l : i < length vs = omega (arith, t, c.held_count-held.ensures.1, length-all_records m) in
+    let l : i < length vs = omega (arith, c.loop-i-test.true, c.held_count-i-end.ensures.1, length-all_records m) in
     let mark = c.mark-k in (
-      omega (arith, t),
-      mark.auto.memory ∙ c.loop-i.invariant.1,
-      count_next (owned_by c.args.station) vs w i c.loop-i.k mark.result l c.loop-i.invariant.2 (mapped_at f vs w i l c.loop-i.invariant.3) mark.ensures.next,
-      mapped_next f vs w i l c.loop-i.invariant.3 (all_records mark.new.memory) mark.ensures.left,
+      mark.auto.memory ∙ c.loop-i.invariant.0,
+      count_next (owned_by c.args.station) vs w i c.loop-i.k mark.result l c.loop-i.invariant.1 (mapped_at f vs w i l c.loop-i.invariant.2) mark.ensures.next,
+      mapped_next f vs w i l c.loop-i.invariant.2 (all_records mark.new.memory) mark.ensures.left,
     )
-
-pub shape_of-memory : goal.shape_of-memory
-shape_of-memory c = c.loop-i.invariant.1
-
-pub returns : goal.returns
-returns c =
-    let n = c.held_count-held in
-    let e : c.args.n ≡ c.loop-i.i = omega (arith, n.ensures.0) in
-    rw e (record { number = c.loop-i.invariant.2; left = c.loop-i.invariant.3 })

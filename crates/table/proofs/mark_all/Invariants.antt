@@ -1,4 +1,3 @@
-use Prim.Native.Nat.{◌≤◌, ◌-◌}
 use mathlib.Core.Path.{◌≡◌}
 use lib.ListN.{length, take}
 use Rattle.octets.specs.Lists.{keep}
@@ -8,7 +7,4 @@ use Rattle.table.specs.Steps.{mapped}
 use Rattle.table.proofs.mark_all.Given as goal
 
 abbrev pub invariant-loop-i : goal.invariant-loop-i
-invariant-loop-i l = (l.i ≤ l.held) × (length l.memory ≡ length l.initial.memory) × (l.k ≡ length (keep (owned_by l.station) (take l.i (all_records l.initial.memory)))) × (all_records l.memory ≡ mapped (set_far l.station l.far) l.i (all_records l.initial.memory))
-
-abbrev pub decreases-loop-i : goal.decreases-loop-i
-decreases-loop-i l = l.held - l.i
+invariant-loop-i l = (length l.memory ≡ length l.initial.memory) × (l.k ≡ length (keep (owned_by l.station) (take l.i (all_records l.initial.memory)))) × (all_records l.memory ≡ mapped (set_far l.station l.far) l.i (all_records l.initial.memory))
