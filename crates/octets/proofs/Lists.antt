@@ -1,6 +1,6 @@
 -- Laws of `keep`, `has`, `every` and `from`. Assumes nothing.
 use Prim.Native.Nat.{ℕ, zero, suc, ◌+◌, ◌≤◌, ◌<◌, zero-le, suc-le-suc}
-use native.Mathlib.Numerals.{add-one, one-add}
+use native.Mathlib.Numerals.{one-add}
 use native.Mathlib.Omega.{arith}
 use native.Mathlib.Nat.{le_step, zero-add, add-zero, suc-add, add_assoc}
 use mathlib.Core.Path.{◌≡◌, refl, sym, ap, ◌∙◌, fun_ext}
@@ -8,8 +8,7 @@ use mathlib.Core.Bool.{Bool, true, false, cond, not, ◌&&◌, ◌||◌, and_com
 use mathlib.Core.List.{List, [], ◌∷◌, ◌++◌, map}
 use lib.Dec.{eqb, eqb-suc-zero}
 use borrow.Author.Tests.{eqb-true, eqb-false}
-use lib.ListN.{length, get_or, take, drop, drop_of_length-le}
-use lib.Seq.{drop-cons}
+use lib.ListN.{length, take}
 use Rattle.octets.specs.Lists.{keep, has, every, from}
 
 module _ {A : Type 0} where
@@ -190,16 +189,6 @@ module _ {A : Type 0} where
   every_take p (suc n) (x ∷ xs) h =
       let e = (and-eq-true_iff (p x) (every p xs)).0 h in
       rw (e.0, every_take p n xs e.1)
-
-  -- a loop that tests element after element: what it has seen so far, and the elements from i on
-  module _ (p : A → Bool) (xs : List A) (i : ℕ) (so_far : Bool) where
-    -- one element more
-    pub every_next : (d : A) → i < length xs → (so_far && every p (drop i xs)) ≡ ((so_far && p (get_or xs i d)) && every p (drop (i + 1) xs))
-    every_next d h = rw (drop-cons xs i d h, add-one) (sym (and_assoc so_far (p (get_or xs i d)) (every p (drop (suc i) xs))))
-
-    -- none is left
-    pub every_end : length xs ≤ i → so_far ≡ (so_far && every p (drop i xs))
-    every_end h = rw (drop_of_length-le xs {i = i} h) (sym (and-true so_far))
 
 -- ---- numbers in a list
 

@@ -1,12 +1,12 @@
 -- Laws of little-endian numbers, over the width. Assumes nothing.
 use Prim.Native.Nat.{ℕ, zero, suc, ◌+◌, ◌*◌, ◌/◌, ◌%◌, ◌^◌, ◌<◌, ◌≤◌}
 use mathlib.Core.Path.{◌≡◌, refl, sym, ap, ◌∙◌}
-use mathlib.Core.List.{List, [], ◌∷◌, ◌++◌, append_assoc, append-nil}
+use mathlib.Core.List.{List, [], ◌∷◌, ◌++◌, append_assoc}
 use native.Mathlib.Nat.{add-zero, pow-suc}
-use native.Mathlib.Numerals.{add-one, towards_numerals}
+use native.Mathlib.Numerals.{towards_numerals}
 use native.Mathlib.Omega.{arith}
 use lib.Dec.{leb, lit<}
-use lib.ListN.{length, get_or, get_or-eq_default, set, take, drop, drop_of_length-le}
+use lib.ListN.{length, get_or, get_or-eq_default, set, take, drop}
 use lib.Seq.{sets, length-sets, sets-eq, take_at, drop_at, drop-cons, get_or-drop, length-take-le}
 use borrow.Author.Tests.{le-leb, lt-leb, leb-true, leb-false}
 use Rattle.std.specs.Int.{w32, to_le_bytes}
@@ -93,12 +93,6 @@ number_at_one m at =
     (λ e. let h = leb-true (at + 1) (length m) e in number_at_in 1 m at h ∙ rw (drop-cons m at 0 (omega arith)) (omega arith))
     (λ e. let h = leb-false (at + 1) (length m) e in number_at_out 1 m at h ∙ sym (get_or-eq_default m 0 {n = at} (omega arith)))
 
--- over 256, what all but the first of them say
-pub number_at_over : (w : ℕ) (m : List ℕ) (at : ℕ) → at + suc w ≤ length m → get_or m at 0 < 256 → number_at (suc w) m at / 256 ≡ number_at w m (at + 1)
-unfolding number
-number_at_over w m at h b =
-    rw (number_at_in (suc w) m at h, number_at_in w m (at + 1) (omega arith), drop-cons m at 0 (omega arith), add-one at) (omega arith)
-
 -- four octets, one by one
 pub number_at_four : (m : List ℕ) (at : ℕ) → at + 4 ≤ length m
     → number_at 4 m at ≡ number (get_or m at 0 ∷ get_or m (at + 1) 0 ∷ get_or m (at + 2) 0 ∷ get_or m (at + 3) 0 ∷ [])
@@ -124,14 +118,6 @@ sets_append m (x ∷ xs) ys at =
 -- so is a number written behind a list
 pub put_at_behind : (w : ℕ) (m xs : List ℕ) (at n : ℕ) → at + length xs + w ≤ length m → put_at w (sets m at xs) (at + length xs) n ≡ sets m at (xs ++ little w n)
 put_at_behind w m xs at n h = put_at_in w (sets m at xs) (at + length xs) n (rw length-sets h) ∙ sets_append m xs (little w n) at
-
--- a number written over all of its octets
-pub put_at-whole : (w : ℕ) (m : List ℕ) (n : ℕ) → length m ≡ w → put_at w m 0 n ≡ little w n
-put_at-whole w m n e =
-    let l = length-little w n in
-    put_at_in w m 0 n (omega arith)
-    ∙ sets-eq (little w n) m 0 (omega arith)
-    ∙ rw (drop_of_length-le m {i = 0 + length (little w n)} (omega arith)) (append-nil (little w n))
 
 -- what was written is read
 pub number_at-put_at : (w : ℕ) (m : List ℕ) (at n : ℕ) → at + w ≤ length m → n < 256 ^ w → number_at w (put_at w m at n) at ≡ n

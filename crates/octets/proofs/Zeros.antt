@@ -1,4 +1,4 @@
--- Laws of `zeros`, of a loop that writes zeros from a place on (the octets half-way, and `zero_from` at its end), and of `holds_only`. Assumes nothing.
+-- Laws of `zeros`, of a loop that writes zeros from a place on (the octets half-way), and of `holds_only`. Assumes nothing.
 use Prim.Native.Nat.{ℕ, zero, suc, ◌+◌, ◌-◌, ◌<◌, ◌≤◌}
 use mathlib.Core.Path.{◌≡◌, refl, ◌∙◌, sym}
 use mathlib.Core.Bool.{true, and-eq-true_iff}
@@ -7,9 +7,9 @@ use native.Mathlib.Numerals.{add-one}
 use native.Mathlib.Omega.{arith}
 use lib.Dec.{eqb}
 use borrow.Author.Tests.{eqb-true}
-use lib.ListN.{length, get_or, take, drop, set, replicate, length-append, length-replicate, replicate-append-replicate, drop_of_length-le, take-append-drop}
+use lib.ListN.{length, get_or, take, drop, set, replicate, length-append, length-replicate, replicate-append-replicate}
 use lib.Seq.{sets, drop-cons, set_at, length-take-le}
-use Rattle.octets.specs.Octets.{zeros, zero_from, holds_only}
+use Rattle.octets.specs.Octets.{zeros, holds_only}
 
 -- ---- zeros
 
@@ -33,12 +33,6 @@ zeros-true (b ∷ m) h =
 abbrev pub cleared : ℕ → ℕ → List ℕ → List ℕ
 cleared at i m = take at m ++ (replicate (i - at) 0 ++ drop i m)
 
--- where nothing is cleared yet
-pub cleared-none : (at : ℕ) (m : List ℕ) → m ≡ cleared at at m
-cleared-none at m =
-    let e : at - at ≡ 0 = omega arith in
-    rw e (sym (take-append-drop at m))
-
 -- one octet more
 pub cleared_next : (at i : ℕ) (m w : List ℕ) → at ≤ i → i < length m → w ≡ cleared at i m → set w i 0 ≡ cleared at (i + 1) m
 cleared_next at i m w h l e =
@@ -47,12 +41,6 @@ cleared_next at i m w h l e =
     let x : w ≡ p ++ (get_or m i 0 ∷ drop (suc i) m) = e ∙ rw (drop-cons m i 0 l, append_assoc) in
     let s : i + 1 - at ≡ i - at + 1 = omega arith in
     rw (x, set_at p (get_or m i 0) (drop (suc i) m) 0 i k, s, ← replicate-append-replicate {A = ℕ} (i - at) 1 0, add-one) (simp append_assoc)
-
--- at the end of the memory nothing is left to clear
-pub cleared_all : (at i : ℕ) (m w : List ℕ) → length m ≤ i → i - at ≤ length m - at → w ≡ cleared at i m → w ≡ zero_from at m
-cleared_all at i m w h k e =
-    let s : i - at ≡ length m - at = omega arith in
-    e ∙ rw (drop_of_length-le m {i = i} h, append-nil, s)
 
 -- ---- holds_only
 

@@ -142,8 +142,3 @@ stations_first_records zero m h l = refl
 stations_first_records (suc n) m h l =
     let k : n * size + size ≤ length m = rw suc-mul at l in
     rw (station_decode m h (omega arith), stations_first_records n (drop size m) (are_octets-drop size m h) (rw length-drop (omega arith)))
-
--- and of all that there is room for
-pub stations_all_records : (m : List ℕ) → AreOctets m → every (λ r. ltb r.station (2 ^ 32)) (all_records m) ≡ true
-unfolding all_records
-stations_all_records m h = stations_first_records (capacity m) m h (capacity_fits m)

@@ -2,7 +2,7 @@
 use Rattle.std.proofs.Common.{◌≡◌, ◌+◌, ◌^◌, ◌<◌, ℕ, List, Option, Result, OnOk, IfSome}
 use Rattle.std.specs.Io.KnownBytes.{Appends}
 use Rattle.sound.specs.Sound.{Channel}
-use Rattle.day.specs.Day.{entry_count, day_opened, replayed, replay_text}
+use Rattle.day.specs.Day.{entry_count, day_opened, replay_text}
 use Rattle.day.specs.Taken.{Replays}
 use Rattle.pieces.proofs.Written.{on_known}
 
@@ -13,10 +13,3 @@ module _ {T E : Type 0} (r : Result T E) (known : Option (List ℕ)) (p : ℕ) (
   text-written first opened =
       on_known r known (λ xs. Replays p m a xs q n b) (λ xs. 1 + entry_count xs < 2 ^ 64 → Appends a b (replay_text xs))
       (λ xs f h. rw (first, opened) at ((f (rw first h)).2))
-
-  -- its table is left
-  pub table-left : p ≡ 1 → m ≡ day_opened → OnOk r (IfSome known (λ xs. Replays p m a xs q n b))
-      → OnOk r (IfSome known (λ xs. 1 + entry_count xs < 2 ^ 64 → n ≡ replayed day_opened xs))
-  table-left first opened =
-      on_known r known (λ xs. Replays p m a xs q n b) (λ xs. 1 + entry_count xs < 2 ^ 64 → n ≡ replayed day_opened xs)
-      (λ xs f h. rw opened at ((f (rw first h)).1))

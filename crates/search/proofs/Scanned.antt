@@ -6,14 +6,14 @@ use mathlib.Core.Bool.{Bool, true, false, cond}
 use mathlib.Core.List.{List, [], ◌++◌, append-nil}
 use lib.Dec.{eqb}
 use lib.ListN.{length as len, take, length-take}
-use lib.Seq.{take-append-le, take_all, take-nil}
+use lib.Seq.{take-append-le, take_all}
 use borrow.Author.Tests.{eqb-true}
 use Rattle.octets.specs.Lists.{keep, from}
 use Rattle.octets.proofs.Lists.{keep_append, keep-every, from_append, every-from}
 use Rattle.slots.specs.declared.Slot.{Slot}
 use Rattle.search.specs.declared.Query.{Query}
 use Rattle.search.specs.Search.{level0, level1, listed, states_in}
-use Rattle.search.specs.Steps.{WellAsked, bound_by, BehindAre}
+use Rattle.search.specs.Steps.{bound_by, BehindAre}
 use Rattle.search.proofs.Blocks.{block_below, Passed, block_level0, free-level1, passed_level0, passed_level1, untaken-level1}
 use Rattle.search.proofs.Behind.{behind_below, behind_not-below}
 use Rattle.search.proofs.Listed.{listed-early, listed_all}
@@ -70,12 +70,6 @@ pub record Scanned (states : ℕ → Slot) (q : Query) (start : ℕ) (list later
   pub untaken : later ≡ take q.wanted (below q (level1 states q.length) start)
 
 module _ {states : ℕ → Slot} {q : Query} where
-  -- at lo none is decided
-  pub scanned_none : WellAsked q → Scanned states q q.lo [] []
-  scanned_none p =
-      let none : q.lo - q.lo ≡ 0 = omega arith in
-      record { from_lo = omega arith; to_hi = omega (arith, p.in_order); free = rw (none, take-nil); untaken = rw (none, take-nil) }
-
   module _ {start : ℕ} {list later : List ℕ} (s : Scanned states q start list later) where
     -- wanted starts of level 0 are enough
     pub scanned_early : len list ≡ q.wanted → list ≡ listed states q

@@ -9,7 +9,7 @@ use mathlib.Core.List.{List, [], ◌∷◌, ◌++◌, map, append_assoc, append-
 use lib.ListN.{length, get_or, take, drop, set, length-append, length-take, length-drop, length-map}
 use lib.Seq.{take-suc, drop-cons, get_or_at, set_at, length-take-le, get_or-drop, drop-drop, drop-set-lt, take-set-le, take-suc-set}
 use Rattle.octets.specs.Lists.{keep, every}
-use Rattle.octets.proofs.Lists.{keep_append, keep-every, length-keep, every_append}
+use Rattle.octets.proofs.Lists.{keep_append, keep-every, length-keep}
 use Rattle.record.specs.Record.{blank}
 use Rattle.record.specs.declared.Rec.{Rec}
 use Rattle.table.specs.Steps.{sieved, mapped}
@@ -24,10 +24,6 @@ module _ (p : Rec → Bool) (vs : List Rec) where
   -- one record more
   keep_more : (i : ℕ) → i < length vs → keep p (take (i + 1) vs) ≡ keep p (take i vs) ++ cond (p (get_or vs i blank)) (get_or vs i blank ∷ []) []
   keep_more i h = rw (add-one, take-suc vs i blank h, keep_append)
-
-  -- all pass still, if it does
-  pub every_more : (i : ℕ) → i < length vs → every p (take i vs) ≡ true → p (get_or vs i blank) ≡ true → every p (take (i + 1) vs) ≡ true
-  every_more i h e t = rw (add-one, take-suc vs i blank h, every_append, e, t)
 
   -- it is counted where it passes
   pub count_next : (w : List Rec) (i k next : ℕ) → i < length vs → k ≡ length (keep p (take i vs)) → get_or w i blank ≡ get_or vs i blank → next ≡ sieved p w i (k + 1) k
