@@ -1,19 +1,20 @@
 -- What the tests of reading and writing tell of the fields. Assumes nothing.
 use Prim.Native.Nat.{ℕ, ◌^◌, ◌≤◌, ◌<◌}
-use mathlib.Core.Path.{◌≡◌, refl, sym, ◌∙◌, subst}
+use mathlib.Core.Path.{◌≡◌, refl, sym, ◌∙◌, ap, subst}
 use mathlib.Core.Bool.{Bool, true, false, not, ◌||◌}
 use mathlib.Core.List.{List, ◌∷◌, ◌++◌}
 use native.Mathlib.Omega.{arith}
 use borrow.Author.Tests.{eq-eqb, ne_eqb, lt-leb, lt-ltb, le-ltb, leb-false, ltb-false, eqb-true, not-false}
 use lib.Dec.{eqb, leb, ltb}
-use lib.ListN.{length}
+use lib.ListN.{length, replicate}
 use Rattle.octets.specs.Complement.{beyond127}
 use Rattle.octets.specs.Octets.{AreOctets}
 use Rattle.octets.specs.Refusals.{first_of, outside}
 use Rattle.std.proofs.Common.{Result}
 use Rattle.refusal.specs.declared.Refusal.{Refusal}
-use Rattle.refusal.specs.Refusals.{Tells}
-use Rattle.octets.proofs.Refusals.{first_of_cons, first_of-zero, first_of-most, first_of_append, first_of-stop, answer_accepted, answer-says, Tells-answer, by_test, or_eq_false, outside-false}
+use Rattle.refusal.specs.Refusals.{number_of, Tells}
+use Rattle.refusal.proofs.Numbers.{numbered}
+use Rattle.octets.proofs.Refusals.{first_of_cons, first_of-zero, first_of-most, first_of_append, first_of-stop, answer-refused, answer_accepted, answer-says, Tells-answer, by_test, or_eq_false, outside-false}
 use Rattle.codec.specs.declared.Block.{Block}
 use Rattle.codec.specs.NineOctets.{Reading, Writing, octet, bits, no_rebroadcast, address_of, destination_of, block_of, bad_code, bad_address, misplaced, field_tests, destination_tests, read_tests, write_tests, reading, refused_reading, octets_of, writing, refused_writing}
 use Rattle.codec.specs.Steps.{Fitting}
@@ -113,6 +114,10 @@ tells_reading s r h = Tells-answer _ refused_reading (λ (x : Reading). x.refusa
 pub tells_writing : (b : Block) (r : Result (List ℕ) Refusal) → Tells r (first_of (write_tests b)) (octets_of b)
     → Tells r (writing b).refusal (writing b).octets
 tells_writing b r h = Tells-answer _ refused_writing (λ (x : Writing). x.refusal) (λ (x : Writing). x.octets) refl (λ n. refl) r (first_of (write_tests b)) h
+
+-- one that is refused gives nine zeros
+pub zeros_written : (b : Block) (e : Refusal) → first_of (write_tests b) ≡ number_of e → replicate 9 0 ≡ (writing b).octets
+zeros_written b e h = ap (λ (x : Writing). x.octets) (answer-refused _ refused_writing {n = number_of e} (sym h) (numbered e))
 
 -- ---- what is not refused
 

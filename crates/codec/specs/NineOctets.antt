@@ -1,10 +1,12 @@
 -- The nine octets of a superframe block reservation (004, Tables 1-40 and 1-41): the fields in them, and what reading and writing give.
-use Rattle.std.specs.Prelude.{ℕ, ◌+◌, ◌-◌, ◌*◌, ◌/◌, ◌%◌, ◌^◌, Bool, false, cond, not, ◌||◌, List, [], ◌∷◌, ◌++◌, pos, ltb, leb, eqb, length, get_or, replicate}
+use Rattle.std.specs.Prelude.{ℕ, ◌+◌, ◌-◌, ◌*◌, ◌/◌, ◌%◌, ◌^◌, ◌≡◌, Bool, false, cond, not, ◌||◌, List, [], ◌∷◌, ◌++◌, pos, ltb, leb, eqb, length, get_or, replicate}
+use Rattle.refusal.specs.Refusals.{Tells}
 use Rattle.octets.specs.Complement.{signed_of, twos_of, beyond127}
 use Rattle.octets.specs.Refusals.{first_of, answer, outside}
 use Rattle.codec.specs.declared.Destination.{Destination}
 use Rattle.codec.specs.declared.Destination.TheVariants.{Address, NoRebroadcast}
 use Rattle.codec.specs.declared.Block.{Block}
+use Rattle.codec.specs.declared.Written.{Written}
 
 -- ---- the layout
 
@@ -144,3 +146,8 @@ refused_writing n = record { refusal = n; octets = replicate 9 0 }
 -- what writing any block gives
 abbrev pub writing : Block → Writing
 writing b = answer (first_of (write_tests b)) (record { refusal = 0; octets = octets_of b }) refused_writing
+
+-- what write promises: of a block it gives what is said of the refusal, and beside it the nine octets, all 0 where it is refused
+pub record WriteGives (b : Block) (w : Written) : Type 0 where
+  pub told : Tells w.said (writing b).refusal tt
+  pub octets : w.octets ≡ (writing b).octets

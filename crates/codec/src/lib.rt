@@ -5,7 +5,7 @@ ghost use Rattle.std.specs.Prelude.{◌<◌, ◌≡◌, [], ◌∷◌, leb, Ok, 
 ghost use Rattle.refusal.specs.Refusals.{Tells};
 ghost use Rattle.octets.specs.Lists.{every};
 ghost use Rattle.octets.specs.Refusals.{first_of};
-ghost use Rattle.codec.specs.NineOctets.{bits, address_of, block_with, bad_code, bad_address, misplaced, field_tests, destination_tests, write_tests, octets1to3, bits3to1, octets_of, reading, writing};
+ghost use Rattle.codec.specs.NineOctets.{bits, address_of, block_with, bad_code, bad_address, misplaced, field_tests, destination_tests, write_tests, octets1to3, bits3to1, octets_of, reading, WriteGives};
 ghost use Rattle.codec.specs.Rates.{bad_list, rate_lookup};
 ghost use Rattle.codec.specs.Parameters.{by_row, parameter_tests, default_lookup};
 ghost use Rattle.codec.specs.Claims.{Claims};
@@ -33,6 +33,13 @@ pub struct Block {
     pub bs: u32,
     pub bo: i32,
     pub bt: u32,
+}
+
+// What writing gives: what it says, and the nine octets, all 0 where it is refused.
+#[derive(Clone, Copy)]
+pub struct Written {
+    pub said: Result<(), Refusal>,
+    pub octets: [u8; 9],
 }
 
 fn bad_code(code: u32) -> bool
@@ -222,11 +229,19 @@ fn store(b: Block) -> [u8; 9]
 }
 
 // Writes a reservation. Refused, in this order: 8, 9, 3, 4, 5, 6, 34.
-pub fn write(b: Block) -> Result<[u8; 9], Refusal>
-    ensures { Tells result (writing b).refusal (writing b).octets }
+pub fn write(b: Block) -> Written
+    ensures { WriteGives b result }
 {
-    judge_block(b)?;
-    Ok(store(b))
+    match judge_block(b) {
+        Ok(()) => Written {
+            said: Ok(()),
+            octets: store(b),
+        },
+        Err(e) => Written {
+            said: Err(e),
+            octets: [0; 9],
+        },
+    }
 }
 
 // ---- the rates
@@ -281,38 +296,24 @@ struct Row {
     step: u32,
 }
 
-// 1 M1, 2 M2inc, 3 M2limit (004, Table 1-3).
-const M1: Row = Row {
-    minimum: 60,
-    maximum: 15360,
-    default: 4500,
-    step: 60,
-};
-
-const M2INC: Row = Row {
-    minimum: 1,
-    maximum: 256,
-    default: 2,
-    step: 1,
-};
-
-const M2LIMIT: Row = Row {
-    minimum: 1,
-    maximum: 65536,
-    default: 160,
-    step: 1,
-};
+// Minimum, maximum, default and step of 1 M1, 2 M2inc, 3 M2limit (004, Table 1-3).
+const PARAMETERS: [[u32; 4]; 3] = [[60, 15360, 4500, 60], [1, 256, 2, 1], [1, 65536, 160, 1]];
 
 // The row of a parameter's number. Refused: 22.
 fn row_of(number: u32) -> Result<Row, Refusal>
     ensures { result ≡ by_row number Ok (Err Refusal.Parameter) }
 {
-    match number {
-        1 => Ok(M1),
-        2 => Ok(M2INC),
-        3 => Ok(M2LIMIT),
-        _ => Err(Refusal::Parameter),
+    if (number < 1) | (3 < number) {
+        return Err(Refusal::Parameter);
     }
+    let row = PARAMETERS[(number - 1) as usize];
+    let [minimum, maximum, default, step] = row;
+    Ok(Row {
+        minimum,
+        maximum,
+        default,
+        step,
+    })
 }
 
 // Whether a figure fits its parameter. Refused, in this order: 22, 10.

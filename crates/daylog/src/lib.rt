@@ -9,7 +9,7 @@ ghost use Rattle.daylog.specs.Claims.{Claims};
 
 use distance::Distance;
 use refusal::Refusal;
-use table::{Request, State};
+use table::{Answer, Request, State};
 
 // The octets of a log record.
 pub const ENTRY: usize = 24;
@@ -139,12 +139,14 @@ pub fn step(s: &mut State, memory: &mut [u8], octets: &[u8]) -> Result<u32, Refu
     ensures memory { memory.new ≡ (entry_leaves (channel s.old memory.old) octets.now).memory }
 {
     let call = read(octets).ok_or(Refusal::Entry)?;
-    match call {
+    let Answer { said, state } = match call {
         LoggedCall::Clock(slot) => s.clock(memory, slot),
         LoggedCall::Reserve(q) => s.reserve(memory, q),
         LoggedCall::SetDistance(station, d, limit) => s.distance(memory, station, d, limit),
         LoggedCall::Wipe(station) => s.wipe(memory, station),
-    }
+    };
+    *s = state;
+    said
 }
 
 // What this crate claims over its promises.

@@ -18,7 +18,7 @@ ghost use Rattle.search.specs.Search.{picked};
 ghost use Rattle.gemthatch.specs.OverC.{over_c, host_block, host_reading, host_writing, destination_from, block_from, lent, lent_map, request, query, call_number, entry_number, slot_number, search_number, in_octets, search_list, place, place_at};
 ghost use Rattle.gemthatch.specs.Claims.{Claims};
 
-use codec::{Block, Destination};
+use codec::{Block, Destination, Written};
 use record::Rec;
 use refusal::Refusal;
 use search::Query;
@@ -105,7 +105,9 @@ fn put_numbers(list: &mut [u8], numbers: &[u32])
     ensures { list.new ≡ holds_only (length list.old) (in_octets numbers.now) }
 {
     for i in 0..numbers.len() {
-        octets::put_number(list, i * 4, numbers[i]);
+        let a = i * 4;
+        // a part whose length the compiler knows, so that no test of it is left
+        octets::put_number(&mut list[a..a + 4], 0, numbers[i]);
     }
 }
 
@@ -184,11 +186,12 @@ pub extern "C" fn gemthatch_read(octets: &[u8]) -> HostReading
 pub extern "C" fn gemthatch_write(block: HostBlock) -> HostWriting
     ensures { result ≡ host_writing (writing (block_from block)) }
 {
-    match codec::write(Block::from(block)) {
-        Ok(octets) => HostWriting { refusal: 0, octets },
+    let Written { said, octets } = codec::write(Block::from(block));
+    match said {
+        Ok(()) => HostWriting { refusal: 0, octets },
         Err(e) => HostWriting {
             refusal: u32::from(e),
-            octets: [0; 9],
+            octets,
         },
     }
 }

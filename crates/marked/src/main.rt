@@ -11,7 +11,7 @@ use refusal::Refusal;
 use search::Query;
 use slots::Slot;
 use std::io;
-use table::{Request, State};
+use table::{Answer, Request, State};
 
 // Every marked case holds of the definitions that the functions promise.
 fn claims()
@@ -100,13 +100,16 @@ fn put_readings(rt: &(impl Print + Eprint)) {
 // The manual's default for Q2a.
 const LIMIT: f64 = 150.0;
 
+// The state that an accepted call hands back.
+fn accepted<T: Drop>(a: Answer<T>) -> Result<State, Refusal> {
+    a.said.and(Ok(a.state))
+}
+
 // The table that holds what is asked for at a slot, alone.
 fn reserve_alone(memory: &mut [u8], m1: u32, slot: u32, q: Request) -> Result<State, Refusal> {
-    let mut s = State::default();
-    s.open(memory, m1)?;
-    s.clock(memory, slot)?;
-    s.reserve(memory, q)?;
-    Ok(s)
+    let s = accepted(State::open(memory, m1))?;
+    let s = accepted(s.clock(memory, slot))?;
+    accepted(s.reserve(memory, q))
 }
 
 // What a station asks for T.
@@ -146,8 +149,8 @@ fn put_slots(rt: &(impl Print + Eprint), s: State, memory: &[u8]) {
 // What a clock answers, made on a copy of T's table: the refusal, if any, now, how many records were dropped, and whether T is there.
 fn put_clock(rt: &(impl Print + Eprint), s: State, memory: [u8; record::SIZE], slot: u32) {
     let mut left = memory;
-    let mut s = s;
-    let dropped = match s.clock(&mut left, slot) {
+    let Answer { said, state } = s.clock(&mut left, slot);
+    let dropped = match said {
         Ok(n) => n,
         Err(e) => {
             put_refused(rt, e);
@@ -155,10 +158,10 @@ fn put_clock(rt: &(impl Print + Eprint), s: State, memory: [u8; record::SIZE], s
         }
     };
     put(rt, b" now");
-    put_number(rt, s.now);
+    put_number(rt, state.now);
     put(rt, b" dropped");
     put_number(rt, dropped);
-    if s.count == 1 {
+    if state.count == 1 {
         put(rt, b" kept");
     } else {
         put(rt, b" gone");
@@ -283,12 +286,12 @@ fn put_offset_t(rt: &(impl Print + Eprint)) -> Result<(), Refusal> {
 // What a reserve is answered in superframes of 60 slots, at slot 0, and where its blocks lie then.
 fn put_short(rt: &(impl Print + Eprint), name: &[u8], bo: i32) -> Result<(), Refusal> {
     let mut memory = [0u8; record::SIZE];
-    let mut s = State::default();
-    s.open(&mut memory, 60)?;
+    let s = accepted(State::open(&mut memory, 60))?;
     put(rt, name);
-    match s.reserve(&mut memory, request_blocks(1, 2, 5, bo)) {
+    let Answer { said, state } = s.reserve(&mut memory, request_blocks(1, 2, 5, bo));
+    match said {
         Ok(_) => {
-            put_blocks(rt, s, &memory, 0, 60);
+            put_blocks(rt, state, &memory, 0, 60);
             put(rt, b", last slot:");
             put_number(rt, series::last_slot(record::load(&memory, 0), 60));
         }
@@ -389,18 +392,17 @@ fn put_spacing(rt: &(impl Print + Eprint), name: &[u8], m1: u32, rate: u32) -> R
 
 // The table that holds T near, and T far of another station.
 fn reserve_both(memory: &mut [u8]) -> Result<State, Refusal> {
-    let mut s = reserve_t(memory, 0, Distance::Unknown)?;
-    s.reserve(memory, request_t(2, 0, Distance::Range(LIMIT)))?;
-    Ok(s)
+    let s = reserve_t(memory, 0, Distance::Unknown)?;
+    accepted(s.reserve(memory, request_t(2, 0, Distance::Range(LIMIT))))
 }
 
 // One far record is not enough for a slot that a near one also holds.
 fn put_near_and_far(rt: &(impl Print + Eprint)) -> Result<(), Refusal> {
     let mut memory = [0u8; 2 * record::SIZE];
-    let mut s = reserve_both(&mut memory)?;
+    let s = reserve_both(&mut memory)?;
     put(rt, b"near and far on one slot:");
     put_slot(rt, s, &memory, 105);
-    s.wipe(&mut memory, 1)?;
+    let s = accepted(s.wipe(&mut memory, 1))?;
     put(rt, b", far alone:");
     put_slot(rt, s, &memory, 105);
     put(rt, b"\n");

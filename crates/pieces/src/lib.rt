@@ -1,8 +1,8 @@
 // Hands a stream's octets on in whole pieces, each as soon as it has come, and tells of a standard stream that failed.
 #![tactic(auto)]
 
-ghost use Rattle.std.specs.Prelude.{◌≡◌, ◌<◌, ◌≤◌, ◌*◌, ◌^◌, ℕ, List, [], ◌++◌, length, IfSome, IfOk, OnOk};
-ghost use Rattle.pieces.specs.Steps.{ReadOn};
+ghost use Rattle.std.specs.Prelude.{◌≡◌, ◌<◌, ◌≤◌, ◌*◌, ◌^◌, ℕ, List, [], ◌++◌, length, take, MatchOption, IfSome, IfOk, OnOk};
+ghost use Rattle.pieces.specs.Steps.{ReadOn, WentOn, Ended};
 
 use std::io::{ErrorKind, Read};
 use std::{fmt, io};
@@ -56,7 +56,33 @@ fn read_on<R: Read>(input: &mut R, buffer: &mut [u8], held: usize) -> io::Result
     Ok(held + got)
 }
 
-// Has all of a stream taken. A proved loop has to end, and nothing says that the stream does, so the reads are counted.
+// One turn: a read, whose whole pieces are taken, those held before it first. How many octets are held then, at the buffer's front; None at the
+// stream's end, where those held are taken too.
+fn take_turn<const SIZE: usize, const ROOM: usize, R: Read, T: Taker<SIZE, ROOM>>(
+    input: &mut R,
+    taker: &mut T,
+    buffer: &mut [u8; ROOM],
+    held: usize,
+) -> Result<Option<usize>, Failure>
+    requires held { held < SIZE }
+    ensures fewer { IfOk result (λ left. IfSome left (λ n. n < SIZE)) }
+    ensures taken { IfOk result (λ left. MatchOption left
+        (Ended (R.remaining input.old) (R.remaining input.new) (take held buffer.old) (λ xs. T.Takes taker.old xs taker.new))
+        (λ n. WentOn SIZE (R.remaining input.old) (R.remaining input.new) (take held buffer.old) n buffer.new (λ xs. T.Takes taker.old xs taker.new))) }
+{
+    let total = read_on(input, buffer, held).map_err(Failure::Input)?;
+    if total == held {
+        taker.take(&buffer[..held]).map_err(Failure::Output)?;
+        return Ok(None);
+    }
+    let whole = total / SIZE * SIZE;
+    let left = total - whole;
+    taker.take(&buffer[..whole]).map_err(Failure::Output)?;
+    octets::to_front(buffer, whole, left);
+    Ok(Some(left))
+}
+
+// Has all of a stream taken. A proved loop has to end, and nothing says that the stream does, so the turns are counted.
 pub fn each<const SIZE: usize, const ROOM: usize, R: Read, T: Taker<SIZE, ROOM>>(
     input: &mut R,
     taker: &mut T,
@@ -66,15 +92,9 @@ pub fn each<const SIZE: usize, const ROOM: usize, R: Read, T: Taker<SIZE, ROOM>>
     let mut buffer = [0u8; ROOM];
     let mut held = 0;
     for _ in 0..u64::MAX {
-        let total = read_on(input, &mut buffer, held).map_err(Failure::Input)?;
-        if total == held {
-            taker.take(&buffer[..held]).map_err(Failure::Output)?;
+        let Some(left) = take_turn(input, taker, &mut buffer, held)? else {
             return Ok(());
-        }
-        let left = total % SIZE;
-        let whole = total - left;
-        taker.take(&buffer[..whole]).map_err(Failure::Output)?;
-        octets::to_front(&mut buffer, whole, left);
+        };
         held = left;
     }
     Err(Failure::Input(ErrorKind::TimedOut.into()))

@@ -15,7 +15,7 @@ use day::Replayed;
 use pieces::Taker;
 use std::io;
 use std::io::Write;
-use table::State;
+use table::{Answer, State};
 
 // The table that is opened: slots in a superframe, and octets.
 const M1: u32 = 4500;
@@ -46,10 +46,10 @@ pub fn begin<W>(output: W) -> Replaying<W>
     ensures { result ≡ replay_begun output }
 {
     let mut memory = [0u8; MEMORY];
-    let mut state = State::default();
+    let Answer { said, state } = State::open(&mut memory, M1);
 
     // The proof shows that this opening is accepted.
-    state.open(&mut memory, M1).unwrap();
+    said.unwrap();
     Replaying {
         output,
         state,

@@ -64,10 +64,13 @@ fn up_to_last(states: &[u8], at: usize, n: usize, x: u8) -> usize
     requires { at + n ≤ length states.now }
     ensures { result ≡ n - streak (octet_below states.now x) at n }
 {
-    for k in (0..n).rev() {
-        if x <= states[at + k] {
-            return k + 1;
+    // counted down beside the range: of a range turned round the compiler makes two counts, and a search took up to a half longer
+    let mut k = n;
+    for _ in 0..n {
+        if x <= states[at + k - 1] {
+            return k;
         }
+        k -= 1;
     }
     0
 }
@@ -125,6 +128,19 @@ impl Starts {
         self.places[self.number] = start;
         self.number += 1;
     }
+
+    // Puts n starts behind them, one after the other. The number is counted on once: counted at each start, it would wait for each to be stored.
+    fn push_from(&mut self, start: u32, n: u32)
+        requires room { length self.old + n ≤ 16 }
+        requires most { start + n ≤ 4294967295 }
+        ensures { self.new ≡ self.old ++ from start n }
+    {
+        let number = self.number;
+        for k in 0..n {
+            self.places[number + k as usize] = start + k;
+        }
+        self.number = number + n as usize;
+    }
 }
 
 // Finds a start behind those found, and the next ones as long as the slot behind the block has a state, up to `wanted` in all; how many.
@@ -141,20 +157,19 @@ fn find_while(states: &[u8], asked: Asked, found: &mut Starts, start: u32, state
 {
     let q = asked.q;
     let length = q.length as usize;
-    let most = q.wanted as usize;
-    let mut s = start;
+    // `as`: sixteen at most
+    let room = q.wanted - found.len() as u32;
+    let mut n = 0;
     // a `while`: the number found, the last start or a state ends it
-    while found.len() < most {
-        found.push(s);
-        if s == q.hi {
-            return s + 1 - start;
+    while n < room {
+        let s = start + n;
+        n += 1;
+        if s == q.hi || states[(s - q.lo) as usize + length] != state {
+            break;
         }
-        if states[(s - q.lo) as usize + length] != state {
-            return s + 1 - start;
-        }
-        s += 1;
     }
-    s - start
+    found.push_from(start, n);
+    n
 }
 
 // Puts starts behind those found, up to `most` in all.

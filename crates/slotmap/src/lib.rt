@@ -18,7 +18,7 @@ use daylog::LoggedCall;
 use distance::Distance;
 use refusal::Refusal;
 use slots::Part;
-use table::{Request, State};
+use table::{Answer, Request, State};
 
 // The slots of the longest superframe.
 const LONGEST: u32 = 15360;
@@ -182,7 +182,9 @@ fn clock_in(
         return Err(stale(*s, memory));
     }
     let moved = moved_by(*s, slot);
-    let dropped = s.clock(memory, slot)?;
+    let Answer { said, state } = s.clock(memory, slot);
+    *s = state;
+    let dropped = said?;
     match moved {
         Some(by) => move_on(map, window, by),
         None => {
@@ -254,7 +256,9 @@ fn distance_over(
     ensures { MapGives (with_map s.old memory.old map.old) (distance station d limit) (call_said result) s.new memory.new map.new }
 {
     let now = s.now;
-    let held = s.distance(memory, station, d, limit)?;
+    let Answer { said, state } = s.distance(memory, station, d, limit);
+    *s = state;
+    let held = said?;
     slots::raise(*s, memory, Part::Own(station), now, window);
     octets::copy(map, window);
     Ok(held)
@@ -272,7 +276,9 @@ fn wipe_over(
     requires others { HoldsOthers s.old station memory.old (length map.old) window.now }
     ensures { MapGives (with_map s.old memory.old map.old) (wipe station) (call_said result) s.new memory.new map.new }
 {
-    let removed = s.wipe(memory, station)?;
+    let Answer { said, state } = s.wipe(memory, station);
+    *s = state;
+    let removed = said?;
     octets::copy(map, window);
     Ok(removed)
 }
@@ -353,7 +359,9 @@ pub fn open(s: &mut State, memory: &mut [u8], map: &mut [u8], m1: u32) -> Result
     ensures { OpenMapGives m1 memory.old map.old result s.new memory.new map.new }
 {
     if map.len() == m1 as usize {
-        s.open(memory, m1)?;
+        let Answer { said, state } = State::open(memory, m1);
+        *s = state;
+        said?;
         map.fill(0);
         return Ok(());
     }
@@ -371,6 +379,7 @@ pub fn open(s: &mut State, memory: &mut [u8], map: &mut [u8], m1: u32) -> Result
 pub fn clock(s: &mut State, memory: &mut [u8], map: &mut [u8], slot: u32) -> Result<u32, Refusal>
     ensures { MapGives (with_map s.old memory.old map.old) (clock slot) (call_said result) s.new memory.new map.new }
 {
+    // A map of another size is not fresh: it takes no window to tell.
     if !is_sized(*s, map) {
         return Err(stale(*s, memory));
     }
@@ -395,7 +404,9 @@ pub fn reserve(s: &mut State, memory: &mut [u8], map: &mut [u8], q: Request) -> 
         return Err(stale(*s, memory));
     }
     let count = s.count;
-    let reported = s.reserve(memory, q)?;
+    let Answer { said, state } = s.reserve(memory, q);
+    *s = state;
+    let reported = said?;
     mark_over(*s, memory, count, map);
     Ok(reported)
 }

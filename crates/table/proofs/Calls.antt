@@ -10,9 +10,10 @@ use mir.Val.{bool_byte}
 use borrow.Author.Tests.{ltb-false}
 use lib.ListN.{length, length-append, length-map}
 use Rattle.std.proofs.Common.{Result, Ok, Err}
+use Rattle.std.specs.Result.{result_and}
 use Rattle.refusal.specs.declared.Refusal.{Refusal}
 use Rattle.refusal.specs.declared.Refusal.TheVariants.{NotSound}
-use Rattle.refusal.specs.Refusals.{number_of}
+use Rattle.refusal.specs.Refusals.{number_of, Tells}
 use Rattle.refusal.proofs.Numbers.{not_zero, one_number}
 use Rattle.octets.specs.Lists.{keep}
 use Rattle.octets.specs.Refusals.{first_of, outside}
@@ -226,3 +227,9 @@ module _ (m : Channel) (q : Request) where
         let g = accepted_gives m (reserve q) (f ∙ sym by_place) refl in
         let a = rw (← k) at (add_accepted m x f) in
         record { told = g.told; state = es ∙ sym a.0 ∙ rw (← more) g.state; octets = eb ∙ sym a.1 ∙ rw (← k) at g.octets }
+
+    -- so by what adding it tells
+    pub request_given : {y : Rec} {s : State} {b : List ℕ} (r : Result (Unit {0}) Refusal) → Tells r (first_of (held_tests (table_of m) y)) tt
+        → s ≡ added m y → b ≡ added_memory m y → y ≡ x → Gives m (reserve q) (call_said (result_and r (Ok 0))) s b
+    request_given (Ok u) t es eb k = request-added t.0 es eb k
+    request_given (Err e) t es eb k = request-lost e t es eb k

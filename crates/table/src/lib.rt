@@ -1,7 +1,7 @@
 // The reservation table in lent memory: the calls.
 #![tactic(auto)]
 
-ghost use Rattle.std.specs.Prelude.{◌≡◌, true, not, Bool, ℕ, ◌+◌, ◌-◌, ◌*◌, ◌≤◌, ◌<◌, ltb, length, get_or, set, take};
+ghost use Rattle.std.specs.Prelude.{◌≡◌, true, not, Bool, Err, ℕ, ◌+◌, ◌-◌, ◌*◌, ◌≤◌, ◌<◌, ltb, length, get_or, set, take};
 ghost use Rattle.refusal.specs.Refusals.{Tells};
 ghost use Rattle.octets.specs.Lists.{keep, has, every};
 ghost use Rattle.octets.specs.Refusals.{first_of};
@@ -23,6 +23,13 @@ pub struct State {
     pub m1: u32,
     pub now: u32,
     pub count: u32,
+}
+
+// What a call gives: what it says, and the state from here on.
+#[derive(Clone, Copy, Debug, PartialEq, Eq)]
+pub struct Answer<T> {
+    pub said: Result<T, Refusal>,
+    pub state: State,
 }
 
 // What reserve is given.
@@ -235,6 +242,16 @@ fn mark_all(memory: &mut [u8], n: usize, station: u32, far: u8) -> usize
 
 // ---- the calls
 
+// A refused call: it hands back a state as it is given.
+fn refused<T>(state: State, refusal: Refusal) -> Answer<T>
+    ensures { result ≡ record { said = Err refusal; state = state } }
+{
+    Answer {
+        said: Err(refusal),
+        state,
+    }
+}
+
 impl State {
     // Keeps the records that stay, closes the gaps and zeros the tail of a sound table, at a time: clock and wipe. How many went.
     // Behind the records that it had, the octets of a sound table are 0 already. Apart, so that its loops have the registers to themselves.
@@ -275,46 +292,52 @@ impl State {
     }
 
     // Opens a table of M1 slots in lent memory. Refused, in this order: 10, 1; then no table is open.
-    pub fn open(&mut self, memory: &mut [u8], m1: u32) -> Result<(), Refusal>
-        ensures { OpenGives m1 memory.old result self.new memory.new }
+    pub fn open(memory: &mut [u8], m1: u32) -> Answer<()>
+        ensures { OpenGives m1 memory.old result.said result.state memory.new }
     {
-        *self = State::default();
+        let state = State::default();
         if !sound::m1_fits(m1) {
-            return Err(Refusal::Figure);
+            return refused(state, Refusal::Figure);
         }
         if !sound::size_fits(memory) {
-            return Err(Refusal::Size);
+            return refused(state, Refusal::Size);
         }
         record::clear(memory, 0);
-        self.m1 = m1;
-        Ok(())
+        Answer {
+            said: Ok(()),
+            state: State { m1, ..state },
+        }
     }
 
     // Sets now and drops the records that are over; reports how many. Refused, in this order: 11, 12, 13.
-    pub fn clock(&mut self, memory: &mut [u8], slot: u32) -> Result<u32, Refusal>
-        ensures { Gives (channel self.old memory.old) (clock slot) (call_said result) self.new memory.new }
+    pub fn clock(self, memory: &mut [u8], slot: u32) -> Answer<u32>
+        ensures { Gives (channel self memory.old) (clock slot) (call_said result.said) result.state memory.new }
     {
-        if !is_sound(*self, memory) {
-            return Err(Refusal::NotSound);
+        if !is_sound(self, memory) {
+            return refused(self, Refusal::NotSound);
         }
         if slot < self.now {
-            return Err(Refusal::Behind);
+            return refused(self, Refusal::Behind);
         }
         if 1000000000 < slot {
-            return Err(Refusal::Late);
+            return refused(self, Refusal::Late);
         }
         let m1 = self.m1;
-        Ok(self.sweep(memory, slot, NotOver { m1, slot }))
+        let mut state = self;
+        let said = Ok(state.sweep(memory, slot, NotOver { m1, slot }));
+        Answer { said, state }
     }
 
     // Adds one record at the end. Refused, in this order: 11, 8, 14, 15, 9, 5, 6, 24, 18, 16, 17.
-    pub fn reserve(&mut self, memory: &mut [u8], q: Request) -> Result<u32, Refusal>
-        ensures { Gives (channel self.old memory.old) (reserve q) (call_said result) self.new memory.new }
+    pub fn reserve(self, memory: &mut [u8], q: Request) -> Answer<u32>
+        ensures { Gives (channel self memory.old) (reserve q) (call_said result.said) result.state memory.new }
     {
-        if !is_sound(*self, memory) {
-            return Err(Refusal::NotSound);
+        if !is_sound(self, memory) {
+            return refused(self, Refusal::NotSound);
         }
-        judge_request(*self, q)?;
+        if let Err(refusal) = judge_request(self, q) {
+            return refused(self, refusal);
+        }
         let x = Rec {
             station: q.station,
             first: self.now + q.bs,
@@ -325,46 +348,44 @@ impl State {
             bo: octets::twos(q.bo),
             zeros: Zeros { a: 0, b: 0, c: 0 },
         };
-        self.add(memory, x)?;
-        Ok(0)
+        let mut state = self;
+        let said = state.add(memory, x).and(Ok(0));
+        Answer { said, state }
     }
 
     // Rewrites far in all the station's records; reports how many it has. Refused, in this order: 11, 8, 18.
-    pub fn distance(
-        &mut self,
-        memory: &mut [u8],
-        station: u32,
-        d: Distance,
-        limit: f64,
-    ) -> Result<u32, Refusal>
-        ensures { Gives (channel self.old memory.old) (distance station d limit) (call_said result) self.new memory.new }
+    pub fn distance(self, memory: &mut [u8], station: u32, d: Distance, limit: f64) -> Answer<u32>
+        ensures { Gives (channel self memory.old) (distance station d limit) (call_said result.said) result.state memory.new }
     {
-        if !is_sound(*self, memory) {
-            return Err(Refusal::NotSound);
+        if !is_sound(self, memory) {
+            return refused(self, Refusal::NotSound);
         }
         if 134217728 <= station {
-            return Err(Refusal::Address);
+            return refused(self, Refusal::Address);
         }
         if !distance::limit_fits(limit) {
-            return Err(Refusal::Limit);
+            return refused(self, Refusal::Limit);
         }
         let far = u8::from(distance::far(d, limit));
         let k = mark_all(memory, self.count as usize, station, far);
         // `as`: no more than the count
-        Ok(k as u32)
+        let said = Ok(k as u32);
+        Answer { said, state: self }
     }
 
     // Removes the station's records; reports how many. Refused, in this order: 11, 8.
-    pub fn wipe(&mut self, memory: &mut [u8], station: u32) -> Result<u32, Refusal>
-        ensures { Gives (channel self.old memory.old) (wipe station) (call_said result) self.new memory.new }
+    pub fn wipe(self, memory: &mut [u8], station: u32) -> Answer<u32>
+        ensures { Gives (channel self memory.old) (wipe station) (call_said result.said) result.state memory.new }
     {
-        if !is_sound(*self, memory) {
-            return Err(Refusal::NotSound);
+        if !is_sound(self, memory) {
+            return refused(self, Refusal::NotSound);
         }
         if 134217728 <= station {
-            return Err(Refusal::Address);
+            return refused(self, Refusal::Address);
         }
         let now = self.now;
-        Ok(self.sweep(memory, now, OtherThan { station }))
+        let mut state = self;
+        let said = Ok(state.sweep(memory, now, OtherThan { station }));
+        Answer { said, state }
     }
 }

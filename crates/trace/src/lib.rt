@@ -6,8 +6,7 @@ ghost use Rattle.table.specs.Memory.{channel, call_said, Gives, OpenGives};
 ghost use Rattle.trace.specs.Claims.{Claims};
 
 use distance::Distance;
-use refusal::Refusal;
-use table::{Request, State};
+use table::{Answer, Request, State};
 
 // What is claimed of the calls. It does nothing: its promise holds the theorems in their place.
 pub fn claims()
@@ -16,38 +15,32 @@ pub fn claims()
 
 // ---- The table's functions give what the theorems ask of real calls. A promise weakened there is not enough here.
 
-fn open_gives(s: &mut State, memory: &mut [u8], m1: u32) -> Result<(), Refusal>
-    ensures { OpenGives m1 memory.old result s.new memory.new }
+fn open_gives(memory: &mut [u8], m1: u32) -> Answer<()>
+    ensures { OpenGives m1 memory.old result.said result.state memory.new }
 {
-    s.open(memory, m1)
+    State::open(memory, m1)
 }
 
-fn clock_gives(s: &mut State, memory: &mut [u8], slot: u32) -> Result<u32, Refusal>
-    ensures { Gives (channel s.old memory.old) (clock slot) (call_said result) s.new memory.new }
+fn clock_gives(s: State, memory: &mut [u8], slot: u32) -> Answer<u32>
+    ensures { Gives (channel s memory.old) (clock slot) (call_said result.said) result.state memory.new }
 {
     s.clock(memory, slot)
 }
 
-fn reserve_gives(s: &mut State, memory: &mut [u8], q: Request) -> Result<u32, Refusal>
-    ensures { Gives (channel s.old memory.old) (reserve q) (call_said result) s.new memory.new }
+fn reserve_gives(s: State, memory: &mut [u8], q: Request) -> Answer<u32>
+    ensures { Gives (channel s memory.old) (reserve q) (call_said result.said) result.state memory.new }
 {
     s.reserve(memory, q)
 }
 
-fn distance_gives(
-    s: &mut State,
-    memory: &mut [u8],
-    station: u32,
-    d: Distance,
-    limit: f64,
-) -> Result<u32, Refusal>
-    ensures { Gives (channel s.old memory.old) (distance station d limit) (call_said result) s.new memory.new }
+fn distance_gives(s: State, memory: &mut [u8], station: u32, d: Distance, limit: f64) -> Answer<u32>
+    ensures { Gives (channel s memory.old) (distance station d limit) (call_said result.said) result.state memory.new }
 {
     s.distance(memory, station, d, limit)
 }
 
-fn wipe_gives(s: &mut State, memory: &mut [u8], station: u32) -> Result<u32, Refusal>
-    ensures { Gives (channel s.old memory.old) (wipe station) (call_said result) s.new memory.new }
+fn wipe_gives(s: State, memory: &mut [u8], station: u32) -> Answer<u32>
+    ensures { Gives (channel s memory.old) (wipe station) (call_said result.said) result.state memory.new }
 {
     s.wipe(memory, station)
 }

@@ -1,38 +1,21 @@
--- `search::find_while` meets its contract: the slots behind the blocks of the starts found so far have the state. Assumes nothing.
-use Prim.Native.Nat.{ℕ, ◌-◌, ◌+◌, ◌≤◌}
+-- `search::find_while` meets its contract: no more starts are put than there is room for. Assumes nothing.
+use Prim.Native.Nat.{ℕ, zero, suc, ◌+◌, ◌-◌, ◌≤◌}
 use native.Mathlib.Omega.{arith}
-use mathlib.Core.Path.{◌≡◌, ap, ◌∙◌}
-use mathlib.Core.List.{List, [], ◌∷◌, ◌++◌, append_assoc}
+use mathlib.Core.Path.{◌≡◌, refl, ap, ◌∙◌}
 use lib.ListN.{length, length-append}
 use Rattle.octets.specs.Lists.{from}
-use Rattle.octets.proofs.Lists.{from_append}
-use Rattle.search.proofs.Behind.{behind_next}
 use Rattle.search.proofs.find_while.Goals as goal
+use Rattle.search.proofs.find_while.Goals.{else-loop-n-test, then-loop-n-test+then-s-q}
 
--- a start more behind those found
-one_more : (start s : ℕ) (before : List ℕ) {found after : List ℕ} → start ≤ s → found ≡ before ++ from start (s - start) → after ≡ found ++ s ∷ []
-    → after ≡ before ++ from start (s + 1 - start)
-one_more start s before h e f =
-    let more : s + 1 - start ≡ s - start + 1 = omega arith in
-    let at : start + (s - start) ≡ s = omega arith in
-    f ∙ rw (e, more, from_append start (s - start) 1, at, append_assoc)
+-- so many numbers are in a row
+length-from : (s n : ℕ) → length (from s n) ≡ n
+length-from s zero = refl
+length-from s (suc n) = ap suc (length-from (s + 1) n)
 
-pub returns-then-s-q-clause-found : goal.returns-then-s-q-clause-found
-returns-then-s-q-clause-found c = one_more c.args.start c.loop-q.s _ c.loop-q.invariant.ahead c.loop-q.invariant.found c.push.ensures
-
-pub returns-then-states-s-clause-found : goal.returns-then-states-s-clause-found
-returns-then-states-s-clause-found c = one_more c.args.start c.loop-q.s _ c.loop-q.invariant.ahead c.loop-q.invariant.found c.push.ensures
-
-pub loop-q-preserved : goal.loop-q-preserved
-loop-q-preserved c =
-    let l = c.loop-q in
-    let a = c.args in
-    let longer : length c.push.new.self ≡ length l.found + 1 = ap length c.push.ensures ∙ rw length-append in
-    record {
-      ahead = omega arith;
-      in_range = omega arith;
-      number = omega arith;
-      at_most_wanted = omega arith;
-      behind = behind_next a.states.now a.asked.q a.state l.s l.invariant.behind c.if-states-s.false;
-      found = one_more a.start l.s _ l.invariant.ahead l.invariant.found c.push.ensures;
-    }
+pub returns-clause-at_most_wanted : goal.returns-clause-at_most_wanted
+returns-clause-at_most_wanted c =
+    let n = c.loop-n-test.n in
+    let longer : length c.push_from.new.self ≡ length c.args.found.now + length (from c.args.start n) = ap length c.push_from.ensures ∙ length-append _ _ in
+    let in_room : n ≤ c.args.asked.q.wanted - c.len.result =
+    elim c.loop-n-test.branch [ else-loop-n-test w ↦ omega (arith, w.n-is) | then-loop-n-test+then-s-q w ↦ omega (arith, w.n-is, w.loop-n-test) ] in
+    omega (arith, longer, length-from c.args.start n, in_room)

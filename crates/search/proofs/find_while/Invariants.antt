@@ -1,21 +1,14 @@
 use Prim.Native.Nat.{◌-◌, ◌+◌, ◌≤◌}
-use mathlib.Core.Path.{◌≡◌}
-use mathlib.Core.List.{◌++◌}
-use lib.ListN.{length}
-use Rattle.octets.specs.Lists.{from}
 use Rattle.search.specs.Steps.{BehindAre}
 use Rattle.search.proofs.find_while.Given as goal
 
-abbrev pub invariant-loop-q : goal.invariant-loop-q
-invariant-loop-q l =
+abbrev pub invariant-loop-n : goal.invariant-loop-n
+invariant-loop-n l =
     record {
-      ahead : l.start ≤ l.s;
-      in_range : l.s ≤ l.q.hi;
-      number : length l.found + l.start ≡ length l.initial.found + l.s;
-      at_most_wanted : length l.found ≤ l.q.wanted;
-      behind : BehindAre l.states l.q l.state l.start (l.s + 1);
-      found : l.found ≡ l.initial.found ++ from l.start (l.s - l.start);
+      in_room : l.n ≤ l.room;
+      in_range : l.start + l.n ≤ l.q.hi;
+      behind : BehindAre l.states l.q l.state l.start (l.start + l.n + 1);
     }
 
-abbrev pub decreases-loop-q : goal.decreases-loop-q
-decreases-loop-q l = l.q.wanted - length l.found
+abbrev pub decreases-loop-n : goal.decreases-loop-n
+decreases-loop-n l = l.room - l.n

@@ -35,12 +35,12 @@ returns-in_err-dropped c =
     let a = c.args in
     let p = err_from_is_err_and c.from_residual.result c.from_residual.ensures.1 in
     rw (p.1, p.2)
-    (fresh_gives-refused (with_map a.s.now a.memory.now a.map.now) (clock a.slot) (fresh (goal.at.returns-in_err-dropped c).Else-not-is_same) _ c.in_err-dropped.ensures)
+    (fresh_gives-refused (with_map a.s.now a.memory.now a.map.now) (clock a.slot) (fresh (goal.at.returns-in_err-dropped c).Else-not-is_same) _ (rw c.in_err-dropped.was at c.clock-said.ensures))
 
 pub move_on-requires-clause-some : goal.move_on-requires-clause-some
 move_on-requires-clause-some c =
     let a = c.args in
-    omega (arith, c.requires.sized, (sound_m1 (with_map a.s.now a.memory.now a.map.now).channel (accepted_sound _ (clock a.slot) (gives_accepted c.in_ok-dropped.ensures))).0)
+    omega (arith, c.requires.sized, (sound_m1 (with_map a.s.now a.memory.now a.map.now).channel (accepted_sound _ (clock a.slot) (gives_accepted (rw c.in_ok-dropped.was at c.clock-said.ensures)))).0)
 
 pub move_on-requires-clause-begins : goal.move_on-requires-clause-begins
 move_on-requires-clause-begins c =
@@ -59,7 +59,7 @@ pub returns-in-Some : goal.returns-in-Some
 returns-in-Some c =
     let a = c.args in
     let x = with_map a.s.now a.memory.now a.map.now in
-    let g = c.in_ok-dropped.ensures in
+    let g = rw c.in_ok-dropped.was at c.clock-said.ensures in
     let by = c.in-Some.by in
     fresh_gives x (clock a.slot) (fresh (goal.at.returns-in-Some c).Else-not-is_same) g
     (c.move_on.ensures
@@ -71,8 +71,8 @@ returns-in-None c =
     let a = c.args in
     let x = with_map a.s.now a.memory.now a.map.now in
     let same = c.is_same in
-    let g = c.in_ok-dropped.ensures in
-    fresh_gives x (clock a.slot) (fresh (goal.at.returns-in-None c).Else-not-is_same) g
+    let given = rw c.in_ok-dropped.was at c.clock-said.ensures in
+    fresh_gives x (clock a.slot) (fresh (goal.at.returns-in-None c).Else-not-is_same) given
     (c.copy.ensures
-    ∙ clock_anew x.channel a.map.now c.requires.sized a.slot (length same.new.window) g
+    ∙ clock_anew x.channel a.map.now c.requires.sized a.slot (length same.new.window) given
     (omega (arith, same.auto.window, room (goal.at.returns-in-None c).After-moved_by-moved c.in-None.is)) _ c.states.ensures)

@@ -14,21 +14,21 @@ use Rattle.slotmap.specs.Map.{open_map_refusal, open_map_leaves}
 use Rattle.slotmap.proofs.Given.{sized_gives}
 use Rattle.slotmap.proofs.open.Goals as goal
 
-pub returns-in_err-open : goal.returns-in_err-open
-returns-in_err-open c =
+pub returns-in_err-said : goal.returns-in_err-said
+returns-in_err-said c =
     let a = c.args in
     let p = err_from_is_err_and c.from_residual.result c.from_residual.ensures.1 in
-    let g = c.in_err-open.ensures in
+    let g = rw c.in_err-said.was at c.open-said.ensures in
     rw (p.1, p.2)
     (sized_gives a.m1 a.memory.now a.map.now c.if-map-m1.true g
-    (λ z. absurd (omega (arith, not_zero c.in_err-open.field-0.0, g.told, z)))
+    (λ z. absurd (omega (arith, not_zero c.in_err-said.field-0.0, g.told, z)))
     (λ _. refl))
 
 pub returns-then-map-m1 : goal.returns-then-map-m1
 returns-then-map-m1 c =
     let a = c.args in
     let e = c.if-map-m1.true in
-    let g = c.in_ok-open.ensures in
+    let g = rw c.in_ok-said.was at c.open-said.ensures in
     sized_gives a.m1 a.memory.now a.map.now e g
     (λ _. c.fill.ensures.after (λ y h. h) ∙ ap (λ (k : ℕ). replicate k 0) e)
     (λ n. absurd (n g.told.0))

@@ -29,14 +29,14 @@ returns-in_err-reported c =
     let a = c.args in
     let p = err_from_is_err_and c.from_residual.result c.from_residual.ensures.1 in
     rw (p.1, p.2)
-    (fresh_gives-refused (with_map a.s.now a.memory.now a.map.now) (reserve a.q) (fresh (goal.at.returns-in_err-reported c).Else-not-is_fresh) _ c.in_err-reported.ensures)
+    (fresh_gives-refused (with_map a.s.now a.memory.now a.map.now) (reserve a.q) (fresh (goal.at.returns-in_err-reported c).Else-not-is_fresh) _ (rw c.in_err-reported.was at c.reserve-said.ensures))
 
 pub mark_over-requires : goal.mark_over-requires
 mark_over-requires c =
     let a = c.args in
     let x = with_map a.s.now a.memory.now a.map.now in
     let size = is_fresh-size x (fresh (goal.at.mark_over-requires c).Else-not-is_fresh) in
-    let fits = reserve_fits x.channel a.map.now size a.q c.in_ok-reported.ensures in
+    let fits = reserve_fits x.channel a.map.now size a.q (rw c.in_ok-reported.was at c.reserve-said.ensures) in
     record { room = fits.0; most = fits.1 }
 
 pub returns : goal.returns
@@ -44,5 +44,5 @@ returns c =
     let a = c.args in
     let x = with_map a.s.now a.memory.now a.map.now in
     let h = fresh (goal.at.returns c).Else-not-is_fresh in
-    let g = c.in_ok-reported.ensures in
+    let g = rw c.in_ok-reported.was at c.reserve-said.ensures in
     fresh_gives x (reserve a.q) h g (c.mark_over.ensures ∙ reserve_left x.channel a.map.now (is_fresh-size x h) a.q g (is_fresh-true x h))

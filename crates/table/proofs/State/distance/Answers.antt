@@ -15,25 +15,28 @@ use Rattle.table.proofs.State.distance.Goals as goal
 
 pub returns-then-not-is_sound : goal.returns-then-not-is_sound
 returns-then-not-is_sound c =
-    unsound_gives (channel c.args.self.now c.args.memory.now) (distance c.args.station c.args.d c.args.limit) (sym c.is_sound.ensures ∙ c.if-not-is_sound.true)
+    rw c.refused.ensures
+    (unsound_gives (channel c.args.self c.args.memory.now) (distance c.args.station c.args.d c.args.limit) (sym c.is_sound.ensures ∙ c.if-not-is_sound.true))
 
 pub returns-then-station-ge134217728 : goal.returns-then-station-ge134217728
 returns-then-station-ge134217728 c =
-    tested_gives (channel c.args.self.now c.args.memory.now) (distance c.args.station c.args.d c.args.limit) (sym c.is_sound.ensures ∙ c.if-not-is_sound.false) Address
-    (rw (le-leb _ _ c.if-station-ge134217728.true))
+    rw c.refused-then-station-ge134217728.ensures
+    (tested_gives (channel c.args.self c.args.memory.now) (distance c.args.station c.args.d c.args.limit) (sym c.is_sound.ensures ∙ c.if-not-is_sound.false) Address
+    (rw (le-leb _ _ c.if-station-ge134217728.true)))
 
 pub returns-then-not-limit_fits : goal.returns-then-not-limit_fits
 returns-then-not-limit_fits c =
-    tested_gives (channel c.args.self.now c.args.memory.now) (distance c.args.station c.args.d c.args.limit) (sym c.is_sound.ensures ∙ c.if-not-is_sound.false) Limit
-    (rw (lt-leb _ _ c.if-station-ge134217728.false, sym c.limit_fits.ensures ∙ c.if-not-limit_fits.true))
+    rw c.refused-then-not-limit_fits.ensures
+    (tested_gives (channel c.args.self c.args.memory.now) (distance c.args.station c.args.d c.args.limit) (sym c.is_sound.ensures ∙ c.if-not-is_sound.false) Limit
+    (rw (lt-leb _ _ c.if-station-ge134217728.false, sym c.limit_fits.ensures ∙ c.if-not-limit_fits.true)))
 
 pub mark_all-k-requires : goal.mark_all-k-requires
-mark_all-k-requires c = (sound_parts (channel c.args.self.now c.args.memory.now) (sym c.is_sound.ensures ∙ c.if-not-is_sound.false)).room
+mark_all-k-requires c = (sound_parts (channel c.args.self c.args.memory.now) (sym c.is_sound.ensures ∙ c.if-not-is_sound.false)).room
 
-pub overflow_cast-result : goal.overflow_cast-result
+pub overflow_cast-said : goal.overflow_cast-said
 unfolding records
-overflow_cast-result c =
-    let m = channel c.args.self.now c.args.memory.now in
+overflow_cast-said c =
+    let m = channel c.args.self c.args.memory.now in
     let k = sound_parts m (sym c.is_sound.ensures ∙ c.if-not-is_sound.false) in
     omega (arith, c.mark_all-k.ensures.number, length_kept m k (owned_by c.args.station), k.room, k.capacity-most)
 
@@ -41,7 +44,7 @@ pub returns : goal.returns
 unfolding records mapped
 returns c =
     let a = c.args in
-    let m = channel a.self.now a.memory.now in
+    let m = channel a.self a.memory.now in
     let h = sym c.is_sound.ensures ∙ c.if-not-is_sound.false in
     let k = sound_parts m h in
     let far = c.from-far.result in

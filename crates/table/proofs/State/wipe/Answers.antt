@@ -14,12 +14,14 @@ use Rattle.table.proofs.State.wipe.Goals as goal
 
 pub returns-then-not-is_sound : goal.returns-then-not-is_sound
 returns-then-not-is_sound c =
-    unsound_gives (channel c.args.self.now c.args.memory.now) (wipe c.args.station) (sym c.is_sound.ensures ∙ c.if-not-is_sound.true)
+    rw c.refused.ensures
+    (unsound_gives (channel c.args.self c.args.memory.now) (wipe c.args.station) (sym c.is_sound.ensures ∙ c.if-not-is_sound.true))
 
 pub returns-then-station-ge134217728 : goal.returns-then-station-ge134217728
 returns-then-station-ge134217728 c =
-    tested_gives (channel c.args.self.now c.args.memory.now) (wipe c.args.station) (sym c.is_sound.ensures ∙ c.if-not-is_sound.false) Address
-    (rw (le-leb _ _ c.if-station-ge134217728.true))
+    rw c.refused-then-station-ge134217728.ensures
+    (tested_gives (channel c.args.self c.args.memory.now) (wipe c.args.station) (sym c.is_sound.ensures ∙ c.if-not-is_sound.false) Address
+    (rw (le-leb _ _ c.if-station-ge134217728.true)))
 
 pub sweep-requires : goal.sweep-requires
 sweep-requires c = sym c.is_sound.ensures ∙ c.if-not-is_sound.false
@@ -27,7 +29,7 @@ sweep-requires c = sym c.is_sound.ensures ∙ c.if-not-is_sound.false
 pub returns : goal.returns
 unfolding table_of
 returns c =
-    let s = c.args.self.now in
+    let s = c.args.self in
     let station = c.args.station in
     let swept = c.sweep.ensures in
     let g = sweep_gives (channel s c.args.memory.now) (wipe station) (sym c.is_sound.ensures ∙ c.if-not-is_sound.false) (rw (lt-leb _ _ c.if-station-ge134217728.false)) refl s.now (λ (r : Rec). not (owned_by station r)) (owned_by station) (λ r. sym (not-not (owned_by station r))) refl refl in
