@@ -321,10 +321,9 @@ pub fn parameter(number: u32, figure: u32) -> Result<(), Refusal>
     ensures { Tells result (first_of (parameter_tests number figure)) tt }
 {
     let row = row_of(number)?;
-    if (figure < row.minimum) | (row.maximum < figure) {
-        return Err(Refusal::Figure);
-    }
-    if (figure - row.minimum) % row.step != 0 {
+    let out = (figure < row.minimum) | (row.maximum < figure);
+    // One test and no two: which figures fit, no processor can guess.
+    if out | (figure.saturating_sub(row.minimum) % row.step != 0) {
         return Err(Refusal::Figure);
     }
     Ok(())
