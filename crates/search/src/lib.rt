@@ -64,7 +64,7 @@ fn up_to_last(states: &[u8], at: usize, n: usize, x: u8) -> usize
     requires { at + n ≤ length states.now }
     ensures { result ≡ n - streak (octet_below states.now x) at n }
 {
-    // counted down beside the range: of a range turned round the compiler makes two counts, and a search took up to a half longer
+    // counted down beside the range: of a range turned round the compiler makes two counts
     let mut k = n;
     for _ in 0..n {
         if x <= states[at + k - 1] {
