@@ -31,16 +31,25 @@ in_octets_next i ns h = rw (add-one, take-suc ns i 0 h) (in_octets_append (take 
 -- ---- a wiped list, filled
 
 -- one number behind the first i, which it holds already
+pub put_more : (places i : ℕ) (ns list : List ℕ) → i < length ns → i * 4 + 4 ≤ places → length list ≡ places → list ≡ holds_only places (in_octets (take i ns))
+    → put_at 4 list (i * 4) (get_or ns i 0) ≡ holds_only places (in_octets (take (i + 1) ns))
+put_more places i ns list h fits l e =
+    let n = little 4 (get_or ns i 0) in
+    let four = length-little 4 (get_or ns i 0) in
+    let k : i * 4 ≡ length (in_octets (take i ns)) = rw (length-in_octets, length-take-le i ns (omega arith)) in
+    put_at_in 4 list (i * 4) (get_or ns i 0) (omega arith)
+    ∙ ap (λ m. sets m (i * 4) n) e
+    ∙ sets-holds_only places (in_octets (take i ns)) n (i * 4) k (omega arith)
+    ∙ ap (holds_only places) (sym (in_octets_next i ns h))
+
+-- the same, of what stands before the number and behind it
 put_next : (places i : ℕ) (ns list : List ℕ) → i < length ns → i * 4 + 4 ≤ places → length list ≡ places → list ≡ holds_only places (in_octets (take i ns))
     → take (i * 4) list ++ (little 4 (get_or ns i 0) ++ drop (i * 4 + 4) list) ≡ holds_only places (in_octets (take (i + 1) ns))
 put_next places i ns list h fits l e =
     let n = little 4 (get_or ns i 0) in
     let four = length-little 4 (get_or ns i 0) in
-    let k : i * 4 ≡ length (in_octets (take i ns)) = rw (length-in_octets, length-take-le i ns (omega arith)) in
-    sym (sets-eq n list (i * 4) (omega arith) ∙ rw (four, append_assoc))
-    ∙ ap (λ m. sets m (i * 4) n) e
-    ∙ sets-holds_only places (in_octets (take i ns)) n (i * 4) k (omega arith)
-    ∙ ap (holds_only places) (sym (in_octets_next i ns h))
+    sym (put_at_in 4 list (i * 4) (get_or ns i 0) (omega arith) ∙ sets-eq n list (i * 4) (omega arith) ∙ rw (four, append_assoc))
+    ∙ put_more places i ns list h fits l e
 
 -- a number written over all of a part's octets
 put_at-whole : (w : ℕ) (m : List ℕ) (n : ℕ) → length m ≡ w → put_at w m 0 n ≡ little w n

@@ -1,8 +1,9 @@
 -- A stream's octets as they are read behind those held, and handed on in whole pieces.
-use Rattle.std.proofs.Common.{◌≡◌, ◌+◌, ◌-◌, ◌*◌, ◌≤◌, ℕ, List, [], ◌++◌, Option, Some, None, arith, refl, length, take, drop, length-drop, sym, ap, ◌∙◌, subst, append_assoc, length-append, length-take-le, take-add, take_at}
-use Rattle.std.proofs.Math.Nat.{add-mul}
+use Rattle.std.proofs.Common.{◌≡◌, ◌+◌, ◌-◌, ◌*◌, ◌/◌, ◌%◌, ◌≤◌, ℕ, List, [], ◌++◌, Option, Some, None, IfSome, arith, refl, length, take, drop, length-drop, sym, ap, ◌∙◌, subst, append_assoc, append-nil, length-append, length-take-le, take-add, take_at}
+use Rattle.std.proofs.Math.Nat.{add-mul, mod-le}
+use Rattle.std.proofs.lemmas.Nat.{div-add-mod'}
 use Rattle.std.proofs.Math.Seq.{take-append-le, take-append-add}
-use Rattle.std.specs.Io.KnownBytes.{Consumes}
+use Rattle.std.specs.Io.KnownBytes.{Consumes, IsAtEnd}
 use borrow.Rule.Slice.PartMut.{put_mid, post_of}
 use Rattle.octets.specs.Octets.{to_front}
 use Rattle.octets.proofs.ToFront.{to_front_in}
@@ -18,6 +19,12 @@ consumes-then None b c x y p q = tt
 consumes-then (Some u) None c x y p q = absurd p
 consumes-then (Some u) (Some v) None x y p q = absurd q
 consumes-then (Some u) (Some v) (Some w) x y p q = p ∙ ap (λ l. x ++ l) q ∙ sym (append_assoc x y w)
+
+-- what was consumed at the end is all that was known
+consumes-all : (a b : Option (List ℕ)) (x : List ℕ) (P : List ℕ → Type 0) → Consumes a b x → IsAtEnd b → P x → IfSome a P
+consumes-all None b x P p q h = tt
+consumes-all (Some u) None x P p q h = absurd p
+consumes-all (Some u) (Some v) x P p q h = subst P (sym (p ∙ ap (λ l. x ++ l) q ∙ append-nil x)) h
 
 -- the first octets of a buffer that was read into from h on
 pub take-read : (h k n : ℕ) (s x : List ℕ) → h ≤ length s → n ≤ length x → take (h + n) (put_mid h k s x) ≡ take h s ++ take n x
@@ -50,12 +57,38 @@ went_on size n h total at s t u known rest within placed moved read took = recor
 }
 
 -- whole pieces, w of them, were taken before, and with these n there are w + n
-pub whole-next : (size w n : ℕ) (x y : List ℕ) → length x ≡ w * size → length y ≡ n * size → length (x ++ y) ≡ (w + n) * size
-whole-next size w n x y before these = rw (length-append, before, these, add-mul) refl
+pub whole-append : (size w n : ℕ) (x y : List ℕ) → length x ≡ w * size → length y ≡ n * size → length (x ++ y) ≡ (w + n) * size
+whole-append size w n x y before these = rw (length-append, before, these, add-mul) refl
 
 -- the next turn: what was read behind the octets held is consumed, and its whole pieces y are taken before those held then
-pub consumes-next : (x held y octets then : List ℕ) (known now rest : Option (List ℕ)) → y ++ then ≡ held ++ octets → Consumes known now (x ++ held) → Consumes now rest octets
+pub consumes-turn : (x held y octets then : List ℕ) (known now rest : Option (List ℕ)) → y ++ then ≡ held ++ octets → Consumes known now (x ++ held) → Consumes now rest octets
     → Consumes known rest ((x ++ y) ++ then)
-consumes-next x held y octets then known now rest holds before consumed =
+consumes-turn x held y octets then known now rest holds before consumed =
     let all : (x ++ held) ++ octets ≡ (x ++ y) ++ then = append_assoc x held octets ∙ ap (λ l. x ++ l) (sym holds) ∙ sym (append_assoc x y then) in
     subst (Consumes known rest) all (consumes-then known now rest _ _ before consumed)
+
+-- ---- the same of a turn by the n octets that it has in the buffer
+
+-- whole pieces, w of them, were taken before, and with these there are w + n / size
+pub whole-next : (size w n : ℕ) (x t : List ℕ) → length x ≡ w * size → n ≤ length t → length (x ++ take (n - n % size) t) ≡ (w + n / size) * size
+whole-next size w n x t whole fits =
+    let pieces : n / size * size + n % size ≡ n = div-add-mod' n size in
+    whole-append size w (n / size) x (take (n - n % size) t) whole (length-take-le (n - n % size) t (omega arith) ∙ omega (arith, pieces))
+
+-- the next turn: what was read behind the octets held is consumed, and its whole pieces are taken before what is left at the front
+pub consumes-next : (size h n : ℕ) (x s t : List ℕ) (known now rest : Option (List ℕ)) → Consumes known now (x ++ take h s) → ReadOn now rest h n s t
+    → Consumes known rest ((x ++ take (n - n % size) t) ++ take (n % size) (to_front (n - n % size) (n % size) t))
+consumes-next size h n x s t known now rest before read =
+    let whole = n - n % size in
+    let left : n % size ≡ n - whole = omega (arith, mod-le n size) in
+    let held : take whole t ++ take (n % size) (to_front whole (n % size) t) ≡ take h s ++ read.octets =
+    subst (λ k. take whole t ++ take k (to_front whole k t) ≡ take n t) (sym left) (take-left whole n t (omega arith) read.fits) ∙ read.holds in
+    consumes-turn x (take h s) (take whole t) read.octets _ known now rest held before read.consumed
+
+-- the last turn: with the octets held, all that was known is there
+pub consumes-end : (h n : ℕ) (x s t : List ℕ) (known now rest : Option (List ℕ)) (P : List ℕ → Type 0) → n ≡ h
+    → Consumes known now (x ++ take h s) → ReadOn now rest h n s t → P (x ++ take h t) → IfSome known P
+consumes-end h n x s t known now rest P same before read proved =
+    let all : take h t ≡ take h s ++ read.octets = ap (λ k. take k t) (sym same) ∙ read.holds in
+    let consumed = consumes-turn x (take h s) (take h t) read.octets [] known now rest (append-nil (take h t) ∙ all) before read.consumed in
+    consumes-all known rest _ P consumed (read.ended same) (subst P (sym (append-nil (x ++ take h t))) proved)

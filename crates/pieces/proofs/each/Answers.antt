@@ -1,6 +1,6 @@
 use Rattle.std.proofs.Common.{arith, [], ◌+◌, ◌++◌, take}
 use Rattle.pieces.specs.Steps.{WentOn}
-use Rattle.pieces.proofs.Held.{consumes-none, consumes-next, whole-next}
+use Rattle.pieces.proofs.Held.{consumes-none, consumes-turn, whole-append}
 use Rattle.pieces.proofs.each.Goals as goal
 
 pub loop-init : goal.loop-init
@@ -15,7 +15,7 @@ loop-preserved g c =
       rw c.in-Some.is at c.in_ok-left.ensures.fewer,
       whole ++ turn.whole,
       n + turn.n,
-      whole-next g.row.SIZE n turn.n whole turn.whole pieces turn.pieces,
+      whole-append g.row.SIZE n turn.n whole turn.whole pieces turn.pieces,
       g.met.T.Taker.joins _ _ _ whole turn.whole n pieces taken turn.taken,
-      consumes-next whole _ turn.whole turn.octets _ _ _ _ turn.holds consumed turn.consumed,
+      consumes-turn whole _ turn.whole turn.octets _ _ _ _ turn.holds consumed turn.consumed,
     )
